@@ -29,8 +29,8 @@ only-file_at [] path flat = refl
 only-file_at (row ∷ rows) path flat =
     let rest = only-file_at rows path flat.1 in
     elim (same_path row.head.path path) as (λ b. only (λ (row : FileRow). not (is_application row.head.kind)) (cond b (Some row) (file_at path rows)) ≡ cond b (Some row) (file_at path rows)) [
-      true ↦ rw (is_none row flat.0) refl
-    | false ↦ rest
+      | true ↦ rw (is_none row flat.0) refl
+      | false ↦ rest
     ]
 
 or_none : {A : Type 0} (o : Option A) → option_or o None ≡ o
@@ -47,8 +47,8 @@ pub IsFlat-file_at : (rows : List FileRow) (path : List ℕ) → AreFlat rows �
 IsFlat-file_at [] path flat = tt
 IsFlat-file_at (row ∷ rows) path flat =
     elim (same_path row.head.path path) as (λ b. IfSome (cond b (Some row) (file_at path rows)) IsFlat) [
-      true ↦ flat.0
-    | false ↦ IsFlat-file_at rows path flat.1
+      | true ↦ flat.0
+      | false ↦ IsFlat-file_at rows path flat.1
     ]
 
 -- the same of what refers to it

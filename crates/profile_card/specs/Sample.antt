@@ -55,17 +55,17 @@ abbrev pub sample : Content
 sample =
     record {
       rows =
-        file (head master Master 0 1 0 0) []
-        ∷ file (head (0x2F05 ∷ []) Transparent 0x05 2 0 2) []
-        ∷ file (head (0x2FE2 ∷ []) Transparent 0x02 1 0 10) iccid
-        ∷ file (head (0x2F00 ∷ []) Linear 0x1E 1 38 152) []
-        ∷ file (head (0x2F06 ∷ []) Linear 0x06 1 42 420) rules
-        ∷ file (head (0x2F08 ∷ []) Transparent 0x08 3 0 5) []
-        ∷ [];
+          file (head master Master 0 1 0 0) []
+          ∷ file (head (0x2F05 ∷ []) Transparent 0x05 2 0 2) []
+          ∷ file (head (0x2FE2 ∷ []) Transparent 0x02 1 0 10) iccid
+          ∷ file (head (0x2F00 ∷ []) Linear 0x1E 1 38 152) []
+          ∷ file (head (0x2F06 ∷ []) Linear 0x06 1 42 420) rules
+          ∷ file (head (0x2F08 ∷ []) Transparent 0x08 3 0 5) []
+          ∷ [];
       pins =
-        pin 1 0x01 (0x31 ∷ 0x32 ∷ 0x33 ∷ 0x34 ∷ 0xFF ∷ 0xFF ∷ 0xFF ∷ 0xFF ∷ [])
-        ∷ pin 2 0x0A (0x38 ∷ 0x38 ∷ 0x38 ∷ 0x38 ∷ 0x38 ∷ 0x38 ∷ 0x38 ∷ 0x38 ∷ [])
-        ∷ [];
+          pin 1 0x01 (0x31 ∷ 0x32 ∷ 0x33 ∷ 0x34 ∷ 0xFF ∷ 0xFF ∷ 0xFF ∷ 0xFF ∷ [])
+          ∷ pin 2 0x0A (0x38 ∷ 0x38 ∷ 0x38 ∷ 0x38 ∷ 0x38 ∷ 0x38 ∷ 0x38 ∷ 0x38 ∷ [])
+          ∷ [];
     }
 
 -- the sample card as it starts: at the MF, with no EF

@@ -54,11 +54,11 @@ found_by_id rows directory id =
     if id == 0x3F00 then file_at master rows
     else if id == 0x7FFF then None
     else first_of (
-      child rows directory id
-      ∷ named rows id directory
-      ∷ option_and_then (named rows id) (parent_of directory)
-      ∷ option_and_then (λ parent. only (λ row. holds_files row.head.kind) (child rows parent id)) (parent_of directory)
-      ∷ []
+    child rows directory id
+    ∷ named rows id directory
+    ∷ option_and_then (named rows id) (parent_of directory)
+    ∷ option_and_then (λ parent. only (λ row. holds_files row.head.kind) (child rows parent id)) (parent_of directory)
+    ∷ []
     )
 
 -- how a file that is selected answers, by its life cycle status

@@ -67,9 +67,14 @@ Answers card bytes outcome =
     ((c : Spoken) × Spells bytes c × (outcome ≡ step card c))
     ⊎ (((c : Spoken) → ¬ Spells bytes c) × (outcome ≡ record { answer = status (refusal bytes); card = card }))
 
--- what a card answers to these command APDUs, one after another
+-- to these command APDUs, one after another, the card gives these answers, and comes to this
+abbrev pub RunsTo : Card → List (List ℕ) → List Answer → Card → Type 0
+RunsTo card [] [] after = after ≡ card
+RunsTo card [] (answer ∷ answers) after = ⊥
+RunsTo card (bytes ∷ rest) [] after = ⊥
+RunsTo card (bytes ∷ rest) (answer ∷ answers) after =
+    (next : Card) × Answers card bytes (record { answer = answer; card = next }) × RunsTo next rest answers after
+
+-- what the card answers to these command APDUs, one after another
 abbrev pub Runs : Card → List (List ℕ) → List Answer → Type 0
-Runs card [] answers = answers ≡ []
-Runs card (bytes ∷ rest) [] = ⊥
-Runs card (bytes ∷ rest) (answer ∷ answers) =
-    (after : Card) × Answers card bytes (record { answer = answer; card = after }) × Runs after rest answers
+Runs card commands answers = (after : Card) × RunsTo card commands answers after

@@ -2,6 +2,7 @@
 #![tactic(auto)]
 
 mod demo_card;
+mod laws;
 mod read_binary;
 mod refusal;
 mod sample;
@@ -10,3 +11,4 @@ mod session;
 
 pub use demo_card::DemoCard;
 pub use file_rows::NoMemory;
+pub use laws::commands_have_one_run;

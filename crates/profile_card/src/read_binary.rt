@@ -55,7 +55,11 @@ fn read_from(body: &[u8], offset: usize, le: u16) -> Result<AnswerBody, Sw>
 }
 
 /// READ BINARY from an offset (ETSI TS 102 221).
-pub(crate) fn read_binary(content: &Content, session: &Session, command: &Command) -> Result<Answer, Sw>
+pub(crate) fn read_binary(
+    content: &Content,
+    session: &Session,
+    command: &Command,
+) -> Result<Answer, Sw>
     requires open { command.now.channel ≡ 0 }
     requires spelled { IsCommand command.now }
     ensures { Follows (reading content.now session.now (spoken command.now)) session.now result session.now }
@@ -68,7 +72,10 @@ pub(crate) fn read_binary(content: &Content, session: &Session, command: &Comman
     let Some(file) = current_file(content, session) else {
         return Err(Sw::NO_CURRENT_EF);
     };
-    require(file.head.kind == Kind::Transparent, Sw::INCOMPATIBLE_STRUCTURE)?;
+    require(
+        file.head.kind == Kind::Transparent,
+        Sw::INCOMPATIBLE_STRUCTURE,
+    )?;
     require_active(file.head.life)?;
     require(may_read(file.head.rule), Sw::SECURITY_NOT_SATISFIED)?;
     let offset = usize::from(u16::from_be_bytes([command.p1, command.p2]));

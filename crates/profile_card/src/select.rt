@@ -66,7 +66,11 @@ fn session_at(row: &FileRow) -> Session
 }
 
 /// SELECT by file identifier with no answer body (ETSI TS 102 221), from the MF.
-pub(crate) fn select(content: &Content, session: &mut Session, command: &Command) -> Result<Answer, Sw>
+pub(crate) fn select(
+    content: &Content,
+    session: &mut Session,
+    command: &Command,
+) -> Result<Answer, Sw>
     requires open { command.now.channel ≡ 0 }
     requires flat { AreFlat content.now.rows }
     requires at_master { session.old.directory ≡ [] }
