@@ -12,3 +12,7 @@ mod session;
 pub use demo_card::DemoCard;
 pub use file_rows::NoMemory;
 pub use laws::commands_have_one_run;
+pub use sample::sample_content;
+
+#[cfg(test)]
+mod tests;

@@ -1,5 +1,6 @@
 //! The content of the sample card.
 ghost use Rattle.std.specs.Prelude.{◌≡◌, ◌≤◌, length, IfOk};
+ghost use Rattle.file_rows.specs.Content.{use_of};
 ghost use Rattle.profile_card.specs.Sample.{file, head, pin, sample};
 
 use file_rows::{Content, FileHead, FileRow, Kind, Life, Name, NoMemory, Path, PinRow, Rule};
@@ -118,7 +119,8 @@ fn sample_pins(alloc: Global) -> Result<Vec<PinRow>, NoMemory>
 
 /// The content of the sample card: the MF with five files, and two PINs.
 pub fn sample_content(alloc: Global) -> Result<Content, NoMemory>
-    ensures { IfOk result (λ content. content ≡ sample) }
+    ensures content { IfOk result (λ content. content ≡ sample) }
+    ensures quota { IfOk result (λ content. use_of content.rows ≡ 781) }
 {
     let rows = sample_rows(alloc)?;
     let pins = sample_pins(alloc)?;
