@@ -1,0 +1,5 @@
+pub mod Change
+pub mod Content
+pub mod FileHead
+pub mod Path
+pub mod PinRow

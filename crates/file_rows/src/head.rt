@@ -1,0 +1,75 @@
+ghost use Rattle.std.specs.Prelude.{◌≡◌};
+
+use plain_lists::ShortList;
+
+/// The identifiers from the MF down to a file; the MF itself has none. At most four (ETSI TS 102 221).
+pub type Path = ShortList<u16, 4>;
+
+/// The name of an application (its AID, ETSI TS 101 220), of 5 to 16 bytes; other files have an empty one.
+pub type Name = ShortList<u8, 16>;
+
+/// What a file is (ETSI TS 102 221).
+#[derive(Clone, Copy, Debug, PartialEq, Eq)]
+pub enum Kind {
+    /// The MF, at the root.
+    Master,
+    /// A dedicated file without a name.
+    Directory,
+    /// A dedicated file with a name, directly under the MF.
+    Application,
+    /// An elementary file that is a run of bytes.
+    Transparent,
+    /// An elementary file of records of one length, in a fixed order.
+    Linear,
+    /// An elementary file of records of one length, whose record 1 is the newest.
+    Cyclic,
+}
+
+/// A file's life cycle status (ETSI TS 102 222).
+#[derive(Clone, Copy, Debug, PartialEq, Eq)]
+pub enum Life {
+    Active,
+    Deactivated,
+    Terminated,
+}
+
+/// Where a file's access conditions stand: a record of an EF ARR, by the file's identifier and the record's number.
+#[derive(Clone, Copy, Debug, PartialEq, Eq)]
+pub struct Rule {
+    pub file: u16,
+    pub row: u8,
+}
+
+/// What is known of a file beside its body.
+#[derive(Debug, PartialEq, Eq, Drop)]
+pub struct FileHead {
+    pub path: Path,
+    pub kind: Kind,
+    pub life: Life,
+    /// The short file identifier, 1 to 30, or 0 where there is none.
+    pub sfi: u8,
+    pub name: Name,
+    pub rule: Option<Rule>,
+    /// The bytes of a record, 0 where there are no records.
+    pub record_len: u8,
+    /// The bytes of the body.
+    pub size: u16,
+}
+
+impl FileHead {
+    /// The same head once more. It takes no memory.
+    pub fn copy(&self) -> Self
+        ensures { result ≡ self.now }
+    {
+        FileHead {
+            path: self.path.copy(),
+            kind: self.kind,
+            life: self.life,
+            sfi: self.sfi,
+            name: self.name.copy(),
+            rule: self.rule,
+            record_len: self.record_len,
+            size: self.size,
+        }
+    }
+}

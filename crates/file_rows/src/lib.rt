@@ -1,0 +1,17 @@
+//! The contents of a card: its files (ETSI TS 102 221, ETSI TS 102 222) and PINs, and the changes that commands make.
+#![tactic(auto)]
+
+mod change;
+mod content;
+mod head;
+mod laws;
+mod pin;
+mod row;
+
+pub use change::{Change, Piece};
+pub use content::{Content, QUOTA, used};
+pub use head::{FileHead, Kind, Life, Name, Path, Rule};
+pub use laws::changes_are_local;
+pub use pin::{PinRow, Puk};
+pub use row::FileRow;
+pub use std::alloc::AllocError as NoMemory;

@@ -1,0 +1,6 @@
+pub mod Faults
+pub mod Calls
+pub mod MemorySink
+pub mod MemorySource
+pub mod Sink
+pub mod Source

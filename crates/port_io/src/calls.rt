@@ -1,0 +1,54 @@
+ghost use Rattle.std.specs.Prelude.{◌≡◌, ◌↔◌, IsTrue};
+ghost use Rattle.port_io.specs.Faults.{NeverFalls};
+ghost use Rattle.port_io.specs.Calls.{planned, NextFails, after_call, after_fault};
+
+use std::marker::Model;
+
+/// Counts calls and faults, and knows which calls are to fail.
+#[derive(Drop)]
+pub(crate) struct CallCount {
+    fail: Vec<u64>,
+    made: u64,
+    faults: u64,
+}
+
+impl Model for CallCount {
+    ghost use Rattle.port_io.specs.Calls.{Calls};
+
+    ghost Value = { Calls };
+
+    ghost view = { λ c. record { fail = c.fail.items; made = c.made; faults = c.faults } };
+}
+
+impl CallCount {
+    pub(crate) fn new(fail: Vec<u64>) -> Self
+        ensures { result ≡ planned fail.items }
+    {
+        CallCount {
+            fail,
+            made: 0,
+            faults: 0,
+        }
+    }
+
+    /// Counts a call, with its fault if it is one of those that fail, and tells whether it is.
+    pub(crate) fn begin(&mut self) -> bool
+        ensures fails { IsTrue result ↔ NextFails self.old }
+        ensures after { self.new ≡ after_call self.old result }
+        ensures count { NeverFalls self.old.faults self.new.faults }
+    {
+        self.made = self.made.saturating_add(1);
+        let fails = self.fail.contains(&self.made);
+        if fails {
+            self.faults = self.faults.saturating_add(1);
+        }
+        fails
+    }
+
+    pub(crate) fn fault(&mut self)
+        ensures after { self.new ≡ after_fault self.old }
+        ensures count { NeverFalls self.old.faults self.new.faults }
+    {
+        self.faults = self.faults.saturating_add(1);
+    }
+}
