@@ -1,11 +1,13 @@
 -- A value has one walk, and who takes all items takes it.
-use Rattle.std.proofs.Common.{◌≡◌, ℕ, ◌+◌, ◌<◌, List, [], ◌∷◌, length, map, Result, Ok, Err, refl, ◌∙◌, ap, subst, arith, length-append}
+use Rattle.std.proofs.Common.{◌≡◌, ℕ, ◌+◌, ◌^◌, ◌<◌, List, [], ◌∷◌, ◌++◌, length, map, Result, Ok, Err, refl, sym, ◌∙◌, ap, subst, arith, rules, length-append, append_assoc}
+use Rattle.std.specs.List.{AllByRecursion}
 use Rattle.std.specs.Iterator.{Drains, Yields}
 use Rattle.ber_tlv.specs.declared.read.Tlv.{Tlv}
 use Rattle.ber_tlv.specs.declared.fault.TlvFault.{TlvFault}
-use Rattle.ber_tlv.specs.Tag.{SpellsTag}
-use Rattle.ber_tlv.specs.Tlv.{BeginsWith}
-use Rattle.ber_tlv.specs.Walk.{Object, Walks, WalkStep, item_of}
+use Rattle.ber_tlv.specs.Tag.{SpellsTag, IsTag, tag_bytes}
+use Rattle.ber_tlv.specs.Length.{SpellsLength, length_bytes}
+use Rattle.ber_tlv.specs.Tlv.{BeginsWith, shortest}
+use Rattle.ber_tlv.specs.Walk.{LeadWith, spelled, Object, Walks, WalkStep, item_of}
 use Rattle.ber_tlv.proofs.Reading.{one_tlv}
 use Rattle.ber_tlv.proofs.Refusal.{not_refused, one_refusal}
 
@@ -56,3 +58,26 @@ drained (Ok x ∷ xs) bytes p =
 drained (Err f ∷ xs) bytes p =
     let y = p.1.1 in
     (y.1.0, y.1.1, ap (map item_of) (nothing_left xs p.1.0 (subst (λ s. Yields WalkStep s xs p.1.0) y.1.2 y.2)))
+
+-- one object more
+pub lead_with_one_more : (bytes : List ℕ) (objects : List Object) (rest more : List ℕ) (object : Object)
+    → LeadWith bytes objects rest → BeginsWith rest object.tag object.value more → LeadWith bytes (objects ++ object ∷ []) more
+lead_with_one_more bytes [] rest more object p q = (more, subst (λ s. BeginsWith s object.tag object.value more) (sym p) q, refl)
+lead_with_one_more bytes (o ∷ os) rest more object p q = (p.0, p.1, lead_with_one_more p.0 os rest more object p.2 q)
+
+-- the length in as few bytes as it takes is a length
+sized : (n : ℕ) → n < 2 ^ 24 → SpellsLength (length_bytes n) n
+sized n h = search rules
+
+begins_with_shortest : (tag : ℕ) (value more : List ℕ) → IsTag tag → length value < 2 ^ 24 → BeginsWith (shortest tag value ++ more) tag value more
+begins_with_shortest tag value more t h = record {
+  front = shortest tag value;
+  spelled = record { front = tag_bytes tag; size = length_bytes (length value); tagged = t; sized = sized (length value) h; whole = refl };
+  whole = refl;
+}
+
+-- objects are read from their shortest spellings
+pub lead_with_spelled : (objects : List Object) (more : List ℕ) → AllByRecursion (λ object. IsTag object.tag × (length object.value < 2 ^ 24)) objects → LeadWith (spelled objects ++ more) objects more
+lead_with_spelled [] more h = refl
+lead_with_spelled (o ∷ os) more h =
+    (spelled os ++ more, subst (λ s. BeginsWith s o.tag o.value (spelled os ++ more)) (sym (append_assoc (shortest o.tag o.value) (spelled os) more)) (begins_with_shortest o.tag o.value (spelled os ++ more) h.0.0 h.0.1), lead_with_spelled os more h.1)

@@ -9,7 +9,7 @@ mod walk;
 mod write;
 
 pub use fault::TlvFault;
-pub use laws::{fewest_bytes, one_reading, one_walk, written_is_read};
+pub use laws::{fewest_bytes, one_reading, one_walk, written_is_read, written_list_is_read};
 pub use read::{Tlv, read_tlv};
 pub use walk::Walk;
 pub use write::put_tlv;
