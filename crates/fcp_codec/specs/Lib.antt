@@ -1,0 +1,5 @@
+pub mod FileForm
+pub mod RuleRef
+pub mod Values
+pub mod Reading
+pub mod State

@@ -1,0 +1,13 @@
+//! File control parameters (ETSI TS 102 221, ETSI TS 102 222): read from a command, and written for an answer.
+//! Nothing here takes memory.
+#![tactic(auto)]
+
+mod fault;
+mod fcp;
+mod read;
+mod tags;
+mod values;
+
+pub use fault::FcpFault;
+pub use fcp::{Fcp, FileForm, RuleRef};
+pub use read::read_fcp;
