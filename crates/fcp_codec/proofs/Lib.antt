@@ -1,2 +1,4 @@
 pub mod Taking
 pub mod Answering
+pub mod Listing
+pub mod Joining

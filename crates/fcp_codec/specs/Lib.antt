@@ -3,3 +3,5 @@ pub mod RuleRef
 pub mod Values
 pub mod Reading
 pub mod State
+pub mod PinStatus
+pub mod Writing

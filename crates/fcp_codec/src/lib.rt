@@ -5,9 +5,12 @@
 mod fault;
 mod fcp;
 mod read;
+mod status;
 mod tags;
 mod values;
+mod write;
 
 pub use fault::FcpFault;
 pub use fcp::{Fcp, FileForm, RuleRef};
 pub use read::read_fcp;
+pub use write::put_fcp;

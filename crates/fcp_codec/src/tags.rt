@@ -20,3 +20,7 @@ pub const RULE: u32 = 0x8B;
 pub const PROPRIETARY: u32 = 0xA5;
 /// The PIN status template.
 pub const PIN_STATUS: u32 = 0xC6;
+/// In the PIN status template: which PINs are enabled.
+pub const ENABLED: u32 = 0x90;
+/// In the PIN status template: the key reference of a PIN.
+pub const KEY: u32 = 0x83;
