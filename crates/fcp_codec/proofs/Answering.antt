@@ -1,5 +1,5 @@
 -- A value has one answer, and the loop over its objects comes to it.
-use Rattle.std.proofs.Common.{◌≡◌, ◌≢◌, ◌⊎◌, ℕ, Bool, true, false, List, [], ◌∷◌, ◌++◌, length, Result, Ok, Err, refl, sym, ◌∙◌, ap, subst, inl, inr, ⊎_elim, arith, append_assoc, append-nil}
+use Rattle.std.proofs.Common.{◌≡◌, ◌≢◌, ℕ, false, List, [], ◌∷◌, ◌++◌, Result, Ok, Err, refl, sym, ◌∙◌, ap, subst, inl, inr, ⊎_elim, arith, append_assoc, append-nil}
 use Rattle.std.proofs.lemmas.Bool.{true≢false}
 use Rattle.ber_tlv.specs.Tlv.{BeginsWith, Refuses}
 use Rattle.ber_tlv.specs.Walk.{Object, LeadWith}
@@ -11,7 +11,7 @@ use Rattle.fcp_codec.specs.declared.fault.FcpFault.{FcpFault}
 use Rattle.fcp_codec.specs.declared.fault.FcpFault.TheVariants.{BadField}
 use Rattle.fcp_codec.specs.declared.fcp.Fcp.{Fcp}
 use Rattle.fcp_codec.specs.declared.read.Fields.{Fields}
-use Rattle.fcp_codec.specs.Reading.{is_bad, NoneIsBad, StopsAt, Answers, ReadsAs, RefusedAt, fcp_of}
+use Rattle.fcp_codec.specs.Reading.{is_bad, NoneIsBad, StopsAt, Answers, fcp_of}
 use Rattle.fcp_codec.specs.State.{Keep, TakesOneMore}
 
 no_object : (t : ℕ) (v r : List ℕ) → ¬ BeginsWith [] t v r

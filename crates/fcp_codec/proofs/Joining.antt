@@ -29,6 +29,6 @@ pub seven_steps : (descriptor id life : Object) (names proprietary rules others 
     → g ≡ spelled (descriptor ∷ id ∷ (((names ++ proprietary) ++ (life ∷ rules)) ++ others))
 seven_steps descriptor id life names proprietary rules others a b c d e f g h i j k l m n =
     n ∙ ap (λ s. s ++ spelled others) (m ∙ ap (λ s. s ++ spelled rules) (l ∙ ap (λ s. s ++ shortest life.tag life.value)
-      (k ∙ ap (λ s. s ++ spelled proprietary) (j ∙ ap (λ s. s ++ spelled names) (i ∙ ap (λ s. s ++ shortest id.tag id.value) h)))))
+    (k ∙ ap (λ s. s ++ spelled proprietary) (j ∙ ap (λ s. s ++ spelled names) (i ∙ ap (λ s. s ++ shortest id.tag id.value) h)))))
     ∙ regrouped (shortest descriptor.tag descriptor.value) (shortest id.tag id.value) (spelled names) (spelled proprietary) (shortest life.tag life.value) (spelled rules) (spelled others)
     ∙ ap (λ s. shortest descriptor.tag descriptor.value ++ (shortest id.tag id.value ++ s)) (sym (apart names proprietary rules others life))

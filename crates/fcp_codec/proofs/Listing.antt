@@ -2,7 +2,7 @@
 use Rattle.std.proofs.Common.{◌≡◌, ℕ, zero, suc, ◌+◌, ◌<◌, ◌≤◌, List, [], ◌∷◌, ◌++◌, length, get_or, drop, map, Option, Some, None, refl, sym, ◌∙◌, ap, arith, add-one, append_assoc, append-nil, length-append}
 use Rattle.std.specs.List.{filter_map, cons_option}
 use Rattle.ber_tlv.specs.Tlv.{shortest}
-use Rattle.ber_tlv.specs.Walk.{Object, spelled}
+use Rattle.ber_tlv.specs.Walk.{spelled}
 use Rattle.fcp_codec.specs.declared.status.PinStatus.{PinStatus}
 use Rattle.fcp_codec.specs.declared.tags.TheConstants.{PIN_STATUS, ENABLED}
 use Rattle.fcp_codec.specs.PinStatus.{template_of, status_objects, key_object, status_bytes}

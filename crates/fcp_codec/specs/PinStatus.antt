@@ -1,21 +1,27 @@
 -- The PIN status template DO of ETSI TS 102 221: which PINs are enabled, and their key references.
-use Rattle.std.specs.Prelude.{ℕ, ◌+◌, ◌*◌, ◌/◌, ◌^◌, Bool, List, [], ◌∷◌, ◌++◌, length, map, take, find, Option, option_map, if◌then◌else◌, ◌==◌}
+use Rattle.std.specs.Prelude.{ℕ, ◌+◌, ◌/◌, ◌^◌, Bool, List, [], ◌∷◌, length, map, take, find, Option, option_map, if◌then◌else◌, ◌==◌, ◌&&◌, ◌||◌}
 use Rattle.std.specs.List.{filter_map}
 use Rattle.std.specs.Int.{w32, to_be_bytes, div_ceil}
 use Rattle.ber_tlv.specs.Walk.{Object, spelled}
+use Rattle.file_rows.specs.Path.{master, same_path}
 use Rattle.file_rows.specs.declared.pin.PinRow.{PinRow}
 use Rattle.fcp_codec.specs.declared.status.PinStatus.{PinStatus}
 use Rattle.fcp_codec.specs.declared.status.TheConstants.{KEYS}
 use Rattle.fcp_codec.specs.declared.tags.TheConstants.{PIN_STATUS, ENABLED, KEY}
 
--- the status of the PIN with this key, if there is one
-abbrev pub status_of : List PinRow → ℕ → Option PinStatus
-status_of pins key =
-    option_map (λ (pin : PinRow). record { key = key; enabled = pin.enabled }) (find (λ pin. pin.key == key) pins)
+-- whether a PIN counts in a directory: the PINs at home in the MF count everywhere, the others at home
+abbrev pub counts_in : List ℕ → PinRow → Bool
+counts_in path pin = same_path pin.home master || same_path pin.home path
 
--- the statuses of these PINs in the order of the keys, the global ones first
-abbrev pub statuses_of : List PinRow → List PinStatus
-statuses_of pins = filter_map (status_of pins) KEYS
+-- the status of the PIN that counts there under this key, if there is one
+abbrev pub status_of : List ℕ → List PinRow → ℕ → Option PinStatus
+status_of path pins key =
+    option_map (λ (pin : PinRow). record { key = key; enabled = pin.enabled })
+    (find (λ pin. (pin.key == key) && counts_in path pin) pins)
+
+-- the statuses of the PINs that count in a directory in the order of their keys, the global ones first
+abbrev pub statuses_of : List ℕ → List PinRow → List PinStatus
+statuses_of path pins = filter_map (status_of path pins) KEYS
 
 -- one bit for each status, from this one on downwards, set where it is enabled
 abbrev pub bits_of : ℕ → List PinStatus → ℕ

@@ -51,7 +51,7 @@ sfi_objects sfi = if sfi == 0 then [] else record { tag = SFI; value = sfi * 8 �
 
 -- what only directories have, and what only EFs have
 abbrev pub last_objects : Bool → FileHead → List PinRow → List Object
-last_objects true head pins = status_objects (statuses_of pins)
+last_objects true head pins = status_objects (statuses_of head.path pins)
 last_objects false head pins = record { tag = SIZE; value = to_be_bytes w16 head.size } ∷ sfi_objects head.sfi
 
 -- the fields, in order

@@ -14,3 +14,6 @@ pub use fault::FcpFault;
 pub use fcp::{Fcp, FileForm, RuleRef};
 pub use read::read_fcp;
 pub use write::put_fcp;
+
+#[cfg(test)]
+mod tests;

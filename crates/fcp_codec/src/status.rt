@@ -5,7 +5,7 @@ ghost use Rattle.arrayvec.specs.ArrayVec.{array_vec_len};
 ghost use Rattle.ber_tlv.specs.Tlv.{shortest};
 ghost use Rattle.ber_tlv.specs.Walk.{spelled};
 ghost use Rattle.fcp_codec.specs.declared.tags.TheConstants.{ENABLED};
-ghost use Rattle.fcp_codec.specs.PinStatus.{status_of, statuses_of, bits_of, status_bytes, key_object, template_of, status_objects};
+ghost use Rattle.fcp_codec.specs.PinStatus.{counts_in, status_of, statuses_of, bits_of, status_bytes, key_object, template_of, status_objects};
 
 use crate::tags;
 use crate::write::push_field;
@@ -15,8 +15,8 @@ use plain_lists::ShortList;
 
 /// The key references in the order in which they are listed: the global ones, and then the local ones.
 pub const KEYS: [u8; 22] = [
-    0x01, 0x02, 0x03, 0x04, 0x05, 0x06, 0x07, 0x08, 0x0A, 0x0B, 0x0C, 0x0D, 0x0E, 0x11, 0x81, 0x82, 0x83,
-    0x84, 0x85, 0x86, 0x87, 0x88,
+    0x01, 0x02, 0x03, 0x04, 0x05, 0x06, 0x07, 0x08, 0x0A, 0x0B, 0x0C, 0x0D, 0x0E, 0x11, 0x81, 0x82,
+    0x83, 0x84, 0x85, 0x86, 0x87, 0x88,
 ];
 
 /// A PIN's key, and whether the PIN is enabled.
@@ -26,10 +26,20 @@ pub struct PinStatus {
     pub enabled: bool,
 }
 
-fn status_of(pins: &[PinRow], key: u8) -> Option<PinStatus>
-    ensures { result ≡ status_of pins.now key }
+// Whether the PIN counts in the directory with that path.
+fn counts_in(path: &[u16], pin: &PinRow) -> bool
+    ensures { result ≡ counts_in path.now pin.now }
 {
-    let pin = pins.iter().find(|pin| pin.key == key)?;
+    let home = pin.home.as_slice();
+    home.is_empty() || home == path
+}
+
+fn status_of(path: &[u16], pins: &[PinRow], key: u8) -> Option<PinStatus>
+    ensures { result ≡ status_of path.now pins.now key }
+{
+    let pin = pins
+        .iter()
+        .find(|pin| pin.key == key && counts_in(path, pin))?;
     Some(PinStatus {
         key,
         enabled: pin.enabled,
@@ -37,14 +47,14 @@ fn status_of(pins: &[PinRow], key: u8) -> Option<PinStatus>
 }
 
 // The statuses at these keys, in their order.
-fn statuses_at(keys: &[u8], pins: &[PinRow]) -> ShortList<PinStatus, 22>
+fn statuses_at(keys: &[u8], path: &[u16], pins: &[PinRow]) -> ShortList<PinStatus, 22>
     requires { length keys.now ≤ 22 }
-    ensures statuses { result ≡ filter_map (status_of pins.now) keys.now }
+    ensures statuses { result ≡ filter_map (status_of path.now pins.now) keys.now }
     ensures few { length result ≤ length keys.now }
 {
     let mut statuses = ShortList::new();
     for key in keys {
-        if let Some(status) = status_of(pins, *key) {
+        if let Some(status) = status_of(path, pins, *key) {
             statuses.push(status);
         }
     }
@@ -102,12 +112,13 @@ fn push_template(fields: &mut ArrayVec<u8, 127>, statuses: &[PinStatus])
     push_field(fields, tags::PIN_STATUS, &template);
 }
 
-/// Appends the PIN status template of a directory with these PINs, in the order of their keys. Without a PIN
-/// there is none.
-pub fn push_status(fields: &mut ArrayVec<u8, 127>, pins: &[PinRow])
+/// Appends the PIN status template of the directory with that path: the PINs that count there, in the order of
+/// their keys. Without such a PIN there is none.
+pub fn push_status(fields: &mut ArrayVec<u8, 127>, path: &[u16], pins: &[PinRow])
     requires { array_vec_len fields.old ≤ 54 }
-    ensures { fields.new.items ≡ fields.old.items ++ spelled (status_objects (statuses_of pins.now)) }
+    ensures { fields.new.items ≡ fields.old.items
+        ++ spelled (status_objects (statuses_of path.now pins.now)) }
 {
-    let statuses = statuses_at(&KEYS, pins);
+    let statuses = statuses_at(&KEYS, path, pins);
     push_template(fields, statuses.as_slice());
 }

@@ -128,7 +128,7 @@ fn push_last(fields: &mut ArrayVec<u8, 127>, head: &FileHead, pins: &[PinRow])
         ++ spelled (last_objects (holds_files head.now.kind) head.now pins.now) }
 {
     if holds_files(head.kind) {
-        status::push_status(fields, pins);
+        status::push_status(fields, head.path.as_slice(), pins);
     } else {
         push_field(fields, tags::SIZE, &head.size.to_be_bytes());
         push_sfi(fields, head.sfi);
@@ -149,9 +149,9 @@ fn push_fields(fields: &mut ArrayVec<u8, 127>, head: &FileHead, pins: &[PinRow])
     push_last(fields, head, pins);
 }
 
-/// The file control parameters of a file, inside the template `62`. For a directory `pins` are the PINs of the
-/// card that count there: the global ones and those at home in it; for other files they aren't looked at.
-/// They are listed by key, the global ones first.
+/// The file control parameters of a file, inside the template `62` (ETSI TS 102 221, "Response data" of SELECT).
+/// The template of a directory lists those of the PINs that count there, by key: the ones at home in the MF, and
+/// then the ones at home in it. For an EF they aren't looked at.
 pub fn put_fcp(head: &FileHead, pins: &[PinRow]) -> ShortList<u8, 130>
     requires { IsFile head.now }
     ensures { result ≡ written head.now pins.now }

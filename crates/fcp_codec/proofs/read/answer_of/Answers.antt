@@ -1,6 +1,5 @@
-use Rattle.std.proofs.Common.{arith}
 use Rattle.std.proofs.lemmas.Result.{err_from_is_err_and}
-use Rattle.ber_tlv.specs.Walk.{object_of, WalkStep}
+use Rattle.ber_tlv.specs.Walk.{object_of}
 use Rattle.fcp_codec.proofs.Answering.{gone_on, stopped}
 use Rattle.fcp_codec.proofs.read.answer_of.Goals as goal
 
