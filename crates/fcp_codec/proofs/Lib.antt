@@ -2,3 +2,4 @@ pub mod Taking
 pub mod Answering
 pub mod Listing
 pub mod Joining
+pub mod Again

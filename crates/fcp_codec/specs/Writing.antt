@@ -1,5 +1,5 @@
 -- A file's control parameters as a card writes them (ETSI TS 102 221).
-use Rattle.std.specs.Prelude.{ℕ, ◌-◌, ◌*◌, ◌/◌, Bool, true, false, List, [], ◌∷◌, ◌++◌, Option, Some, None, unwrap_or, length, slice_get, if◌then◌else◌, ◌==◌}
+use Rattle.std.specs.Prelude.{ℕ, ◌-◌, ◌*◌, ◌/◌, ◌^◌, ◌<◌, ◌≤◌, Bool, true, false, List, [], ◌∷◌, ◌++◌, Option, Some, None, unwrap_or, option_map, IfSome, length, slice_get, if◌then◌else◌, ◌==◌}
 use Rattle.std.specs.Int.{w16, to_be_bytes}
 use Rattle.ber_tlv.specs.Tlv.{shortest}
 use Rattle.ber_tlv.specs.Walk.{Object, spelled}
@@ -11,6 +11,8 @@ use Rattle.file_rows.specs.declared.head.Life.{Life}
 use Rattle.file_rows.specs.declared.head.Life.TheVariants.{Active, Deactivated, Terminated}
 use Rattle.file_rows.specs.declared.head.Rule.{Rule}
 use Rattle.file_rows.specs.declared.pin.PinRow.{PinRow}
+use Rattle.fcp_codec.specs.declared.fcp.Fcp.{Fcp}
+use Rattle.fcp_codec.specs.declared.fcp.RuleRef.TheVariants.{Whole}
 use Rattle.fcp_codec.specs.PinStatus.{statuses_of, status_objects}
 use Rattle.fcp_codec.specs.declared.tags.TheConstants.{TEMPLATE, SIZE, DESCRIPTOR, IDENTIFIER, NAME, SFI, LIFE, RULE, PROPRIETARY}
 
@@ -65,3 +67,37 @@ objects_for head pins =
 
 abbrev pub written : FileHead → List PinRow → List ℕ
 written head pins = shortest TEMPLATE (spelled (objects_for head pins))
+
+-- the name, where there is one
+abbrev pub name_for : List ℕ → Option (List ℕ)
+name_for [] = None
+name_for (byte ∷ bytes) = Some (byte ∷ bytes)
+
+-- the size of an EF, and its SFI where it has one
+abbrev pub size_for : Bool → ℕ → Option ℕ
+size_for true size = None
+size_for false size = Some size
+
+abbrev pub sfi_for : Bool → ℕ → Option ℕ
+sfi_for true sfi = None
+sfi_for false sfi = if sfi == 0 then None else Some sfi
+
+-- what a file's control parameters say of it
+abbrev pub fcp_for : FileHead → Fcp
+fcp_for head = record {
+  descriptor = descriptor_for head.kind head.record_len head.size;
+  id = Some (own_id head.path);
+  size = size_for (holds_files head.kind) head.size;
+  sfi = sfi_for (holds_files head.kind) head.sfi;
+  name = name_for head.name;
+  life = Some head.life;
+  rule = option_map Whole head.rule;
+}
+
+-- what has room in its field
+pub record FitsFields (head : FileHead) : Type 0 where
+  pub id : own_id head.path < 2 ^ 16
+  pub size : head.size < 2 ^ 16
+  pub rule : IfSome head.rule (λ rule. rule.file < 2 ^ 16)
+  pub name : length head.name ≤ 17
+  pub sfi : head.sfi ≤ 30

@@ -4,6 +4,7 @@
 
 mod fault;
 mod fcp;
+mod laws;
 mod read;
 mod status;
 mod tags;
@@ -12,6 +13,7 @@ mod write;
 
 pub use fault::FcpFault;
 pub use fcp::{Fcp, FileForm, RuleRef};
+pub use laws::written_is_read;
 pub use read::read_fcp;
 pub use write::put_fcp;
 
