@@ -9,9 +9,23 @@ use crate::sample::sample_content;
 use crate::select::select;
 use crate::session::Session;
 use apdu_codec::{Answer, Command, Sw};
+use case_table::{case_arms, ins_rows};
 use file_rows::{Content, NoMemory, Path};
 use std::alloc::Global;
 use std::marker::Model;
+
+/// What the card does for each row of the table of instructions.
+macro_rules! instruction {
+    (0xA4, $class:tt, ($card:expr, $command:expr)) => {
+        select(&$card.content, &mut $card.session, $command)
+    };
+    (0xB0, $class:tt, ($card:expr, $command:expr)) => {
+        read_binary(&$card.content, &$card.session, $command)
+    };
+    ($ins:tt, $class:tt, $more:tt) => {
+        Err(Sw::WRONG_INSTRUCTION)
+    };
+}
 
 /// The sample card: it holds one profile's files, and stands on port 1 of a card in MEP-A1.
 #[derive(Debug, Drop)]
@@ -67,10 +81,6 @@ impl DemoCard {
         ensures content { self.new.content ≡ self.old.content }
     {
         require(command.channel == 0, Sw::CHANNEL_NOT_SUPPORTED)?;
-        match command.ins {
-            0xA4 => select(&self.content, &mut self.session, command),
-            0xB0 => read_binary(&self.content, &self.session, command),
-            _ => Err(Sw::WRONG_INSTRUCTION),
-        }
+        ins_rows!(case_arms: command.ins, instruction(self, command), Err(Sw::WRONG_INSTRUCTION))
     }
 }
