@@ -38,7 +38,7 @@ abbrev pub name_objects : List ℕ → List Object
 name_objects [] = []
 name_objects (byte ∷ bytes) = record { tag = NAME; value = byte ∷ bytes } ∷ []
 
--- the UICC characteristics of a directory: the clock may not be stopped, 3 V and 1.8 V
+-- what a directory says of the UICC (its characteristics)
 abbrev pub proprietary_objects : Bool → List Object
 proprietary_objects false = []
 proprietary_objects true = record { tag = PROPRIETARY; value = 0x80 ∷ 0x01 ∷ 0x71 ∷ [] } ∷ []
