@@ -1,0 +1,6 @@
+mod Appended
+mod Outcome
+mod Patches
+mod Pieces
+mod RowLemmas
+mod Touched
