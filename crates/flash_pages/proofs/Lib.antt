@@ -1,4 +1,5 @@
 mod Appended
+mod MemoryCalls
 mod Outcome
 mod Patches
 mod Pieces

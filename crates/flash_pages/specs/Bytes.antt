@@ -1,5 +1,6 @@
 -- Lists of bytes, as a flash holds them.
-use Rattle.std.specs.Prelude.{◌≡◌, ℕ, ◌+◌, List, ◌++◌, length, take, drop, replicate}
+use Rattle.std.specs.Prelude.{◌≡◌, ℕ, ◌+◌, ◌%◌, ◌==◌, if◌then◌else◌, List, ◌++◌, length, take, drop, replicate, map, slice_index}
+use Rattle.std.specs.List.{range_with_len}
 
 -- n bytes of FF, as an erased flash reads
 unfoldable pub blank : ℕ → List ℕ
@@ -18,3 +19,10 @@ pub record DiffersIn (at n : ℕ) (old new : List ℕ) : Type 0 where
   pub before : take at new ≡ take at old
   pub after : drop (at + n) new ≡ drop (at + n) old
   pub same_length : length new ≡ length old
+
+-- torn bytes are these, over and over, or FF where there are none
+abbrev pub torn_byte : List ℕ → ℕ → ℕ
+torn_byte torn place = if length torn == 0 then 255 else slice_index torn (place % length torn)
+
+unfoldable pub repeated : List ℕ → ℕ → List ℕ
+repeated torn n = map (torn_byte torn) (range_with_len 0 n)

@@ -5,7 +5,7 @@
 use Rattle.std.specs.Prelude.{◌≡◌, ◌⊎◌, ◌↔◌, ℕ, ◌+◌, ◌*◌, ◌%◌, ◌<◌, ◌≤◌, Bool, IsTrue, List, length, Option, Some, IsSome, IfSome, Result, is_ok, if◌then◌else◌}
 use Rattle.port_io.specs.Faults.{NeverFalls}
 use Rattle.flash_pages.specs.declared.flash.TheConstants.{BLOCK_LEN, FLASH_LEN, PIECE_LEN}
-use Rattle.flash_pages.specs.Bytes.{patch, DiffersIn}
+use Rattle.flash_pages.specs.Bytes.{blank, patch, DiffersIn}
 
 pub record FlashState : Type 1 where
   -- what reads give, where the flash tells it
@@ -37,6 +37,15 @@ pub record IsFlash (flash : FlashState) : Type 0 where
 -- no program and no erase has failed since the last Ok, so a restart leaves what reads give
 abbrev pub IsSettled : FlashState → Type 0
 IsSettled flash = IsTrue flash.images_told → (image : List ℕ) → flash.images flash.last_ok image → flash.bytes ≡ Some image
+
+-- a flash as it is made: blank, and nothing has happened yet
+pub record IsFresh (flash : FlashState) : Type 0 where
+  pub bytes : flash.bytes ≡ Some (blank FLASH_LEN)
+  pub images_told : IsTrue flash.images_told
+  pub settled : IsSettled flash
+  pub programmed : flash.programmed ≡ 0
+  pub erased : flash.erased ≡ 0
+  pub faults : flash.faults ≡ 0
 
 -- the images of before are as they were
 pub record KeepsImages (old new : FlashState) : Type 0 where
@@ -90,14 +99,14 @@ pub record Changes {E : Type 0} (at : ℕ) (bytes : List ℕ) (old new : FlashSt
   pub done : IsTrue (is_ok result) → IfSome old.bytes (λ before. new.bytes ≡ Some (patch before at bytes))
   pub torn : IfSome old.bytes (λ before. IfSome new.bytes (DiffersIn at (length bytes) before))
   pub images : IfSome old.bytes (λ before. HasImages old new (DiffersIn at (length bytes) before))
-  pub last_ok : new.last_ok ≡ (if is_ok result then new.moment else old.last_ok)
+  pub last_ok : IsTrue new.images_told → new.last_ok ≡ (if is_ok result then new.moment else old.last_ok)
 
 -- Power on again. What reads give is then an image since the last Ok, and inside the call there are all of these.
 pub record Restarts {E : Type 0} (old new : FlashState) (result : Result Unit E) : Type 0 where
   pub time : GoesOn old new
   pub bytes : IsTrue old.images_told → IfSome new.bytes (λ image. old.images old.last_ok image)
   pub images : HasImages old new (old.images old.last_ok)
-  pub last_ok : new.last_ok ≡ (if is_ok result then new.moment else old.last_ok)
+  pub last_ok : IsTrue new.images_told → new.last_ok ≡ (if is_ok result then new.moment else old.last_ok)
   pub programmed : new.programmed ≡ old.programmed
   pub erased : new.erased ≡ old.erased
 

@@ -3,11 +3,17 @@
 #![tactic(auto)]
 
 mod bank;
+mod fills;
 mod flash;
+mod history;
+mod memory;
+mod plan;
 mod row;
 mod switch;
 
 pub use bank::Bank;
 pub use flash::{BLOCK_LEN, BLOCKS, FLASH_LEN, Flash, PIECE_LEN};
+pub use memory::MemoryFlash;
+pub use plan::FlashPlan;
 pub use row::{Body, RowAt, append_row, read_row};
 pub use switch::{Switch, read_switch};
