@@ -1,7 +1,7 @@
 mod Appended
 mod MemoryCalls
-mod Outcome
-mod Patches
+pub mod Outcome
+pub mod Patches
 mod Pieces
-mod RowLemmas
-mod Touched
+pub mod RowLemmas
+pub mod Touched

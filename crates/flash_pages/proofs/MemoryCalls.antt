@@ -246,3 +246,18 @@ is_done-is Off is = absurd (false≢true is)
 pub not_ok : {T E : Type 0} (r : Result T E) → IsErr r → is_ok r ≡ false
 not_ok (Ok x) err = absurd (false≢true err)
 not_ok (Err e) err = refl
+
+-- the images are told as long as there is room
+pub after_call-told : (past : Past) (call : Call) → (after_call past call).told ≡ (past.told && nat_lt (length past.calls) past.room)
+after_call-told past call = by_test (past.told && nat_lt (length past.calls) past.room)
+  where
+    by_test : (kept : Bool) → (if kept then (let q : Past = record { calls = call ∷ past.calls; told = true; room = past.room } in q) else record { calls = past.calls; told = false; room = past.room }).told ≡ kept
+    by_test true = refl
+    by_test false = refl
+
+pub after_call-room : (past : Past) (call : Call) → (after_call past call).room ≡ past.room
+after_call-room past call = by_test (past.told && nat_lt (length past.calls) past.room)
+  where
+    by_test : (kept : Bool) → (if kept then (let q : Past = record { calls = call ∷ past.calls; told = true; room = past.room } in q) else record { calls = past.calls; told = false; room = past.room }).room ≡ past.room
+    by_test true = refl
+    by_test false = refl

@@ -2,7 +2,7 @@
 use Rattle.std.proofs.Common.{◌≡◌, ◌⊎◌, inl, inr, ⊎_elim, ℕ, ◌+◌, ◌≤◌, Bool, IsTrue, List, length, Option, Some, None, IsSome, IfSome, Result, refl, sym, ◌∙◌, subst, arith}
 use Rattle.std.proofs.lemmas.Bool.{false≢true}
 use Rattle.flash_pages.specs.Bytes.{DiffersIn}
-use Rattle.flash_pages.specs.Flash.{FlashState, IsFlash, HasMoments, KeepsImages, GoesOn, LeavesOnly, Changes, Touches}
+use Rattle.flash_pages.specs.Flash.{FlashState, IsFlash, HasMoments, IsSettled, KeepsImages, GoesOn, LeavesOnly, Changes, Restarts, Touches}
 use Rattle.flash_pages.proofs.Patches.{DiffersIn-refl, DiffersIn-trans, DiffersIn-wider}
 
 -- what holds where something is told holds of what is told
@@ -112,3 +112,11 @@ told_after a b time x is = told b.bytes (time.bytes_told.0 (is_told a.bytes x is
 
 pub same_some : (x y : List ℕ) → Some x ≡ Some y → x ≡ y
 same_some x y is = cc
+
+-- a flash whose last Ok is now is settled
+pub settled_now : (s : FlashState) → IsFlash s → (IsTrue s.images_told → s.last_ok ≡ s.moment) → IsSettled s
+settled_now s lawful now says image left = (lawful.moments says).only_now image (let P : ℕ → Type 0 = λ t. s.images t image in subst P (now says) left)
+
+-- a settled flash reads the same after a restart
+pub restart_settled : {E : Type 0} (a b : FlashState) (result : Result Unit E) → Restarts a b result → IsSettled a → IsTrue a.images_told → (image : List ℕ) → b.bytes ≡ Some image → a.bytes ≡ Some image
+restart_settled a b result restarts settled says image is = settled says image (at_some b.bytes (λ x. a.images a.last_ok x) image is (restarts.bytes says))

@@ -1,6 +1,6 @@
 -- Rows: a gate, four bytes of length, and a body. A row is open where its gate is 00, and the rows of a bank end at
 -- the first gate that isn't.
-use Rattle.std.specs.Prelude.{◌≡◌, ◌≢◌, ◌⊎◌, ℕ, ◌+◌, ◌^◌, ◌<◌, ⊤, List, [], ◌∷◌, ◌++◌, length, drop}
+use Rattle.std.specs.Prelude.{◌≡◌, ◌≢◌, ◌⊎◌, ℕ, ◌+◌, ◌^◌, ◌<◌, ◌≤◌, ⊤, List, [], ◌∷◌, ◌++◌, length, drop}
 use Rattle.std.specs.Int.{to_be_bytes, w32}
 use Rattle.flash_pages.specs.declared.row.RowAt.{RowAt}
 use Rattle.flash_pages.specs.declared.row.RowAt.TheVariants.{Open, End, Overrun}
@@ -38,6 +38,12 @@ RowIs at bytes End = IsClosed bytes
 RowIs at bytes (Open place len next) =
     (body : List ℕ) × BeginsWithRow bytes body × (length body ≡ len) × (place ≡ at + 5) × (next ≡ place + len)
 RowIs at bytes Overrun = (IsClosed bytes → ⊥) × ((body : List ℕ) → length body < 2 ^ 32 → BeginsWithRow bytes body → ⊥)
+
+-- an open row ends no later than the bank
+abbrev pub LiesBefore : ℕ → ℕ → RowAt → Type 0
+LiesBefore at end (Open body len next) = (body ≡ at + 5) × (next ≡ body + len) × (next ≤ end)
+LiesBefore at end End = ⊤
+LiesBefore at end Overrun = ⊤
 
 -- What a cut may leave while a row is appended: length and body torn behind a gate as it was, or both in place
 -- behind any gate.

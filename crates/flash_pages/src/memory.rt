@@ -1,4 +1,4 @@
-ghost use Rattle.std.specs.Prelude.{◌≡◌, ◌*◌, ◌<◌, ◌+◌, length, IfOk, IfSome, OnOk, OnErr, is_ok, IsOk, IsTrue, false};
+ghost use Rattle.std.specs.Prelude.{◌≡◌, ◌*◌, ◌<◌, ◌+◌, length, IfOk, IfSome, OnOk, OnErr, is_ok, IsOk, IsTrue, false, ◌&&◌, nat_lt};
 ghost use Rattle.port_io.specs.Faults.{FailsOnlyWhereRose, NeverFalls, one_more};
 ghost use Rattle.flash_pages.specs.Bytes.{blank, part};
 ghost use Rattle.flash_pages.specs.Flash.{IsFresh, IsRange, IsPiece, Reads, Changes, Restarts};
@@ -98,7 +98,7 @@ impl MemoryFlash {
 }
 
 impl Flash for MemoryFlash {
-    ghost use Rattle.flash_pages.specs.Memory.{state_of, plan_of, bytes_of, torn_of};
+    ghost use Rattle.flash_pages.specs.Memory.{state_of, plan_of, bytes_of, torn_of, room_of};
 
     ghost state = { state_of };
 
@@ -119,6 +119,9 @@ impl Flash for MemoryFlash {
         ensures cause { FailsOnlyWhereRose result (plan_of self.old).faults (plan_of self.new).faults }
         ensures answer { is_ok result ≡ is_read (plan_of self.old) }
         ensures plan { plan_of self.new ≡ after_read (plan_of self.old) }
+        ensures told { (state_of self.new).images_told ≡ (state_of self.old).images_told }
+        ensures room { room_of self.new ≡ room_of self.old }
+        ensures torn { torn_of self.new ≡ torn_of self.old }
     {
         if self.power.begin_read() {
             let start = at as usize;
@@ -138,6 +141,9 @@ impl Flash for MemoryFlash {
         ensures cause { FailsOnlyWhereRose result (plan_of self.old).faults (plan_of self.new).faults }
         ensures answer { is_ok result ≡ is_done (outcome_of (plan_of self.old)) }
         ensures plan { plan_of self.new ≡ after_change (plan_of self.old) }
+        ensures told { (state_of self.new).images_told ≡ ((state_of self.old).images_told && nat_lt (state_of self.old).moment (room_of self.old)) }
+        ensures room { room_of self.new ≡ room_of self.old }
+        ensures torn { torn_of self.new ≡ torn_of self.old }
         ensures left { bytes_of self.new
             ≡ with_left (bytes_of self.old) at (left_by (outcome_of (plan_of self.old)) (torn_of self.old) bytes.now) }
     {
@@ -158,6 +164,9 @@ impl Flash for MemoryFlash {
         ensures cause { FailsOnlyWhereRose result (plan_of self.old).faults (plan_of self.new).faults }
         ensures answer { is_ok result ≡ is_done (outcome_of (plan_of self.old)) }
         ensures plan { plan_of self.new ≡ after_change (plan_of self.old) }
+        ensures told { (state_of self.new).images_told ≡ ((state_of self.old).images_told && nat_lt (state_of self.old).moment (room_of self.old)) }
+        ensures room { room_of self.new ≡ room_of self.old }
+        ensures torn { torn_of self.new ≡ torn_of self.old }
         ensures left { bytes_of self.new ≡ with_left (bytes_of self.old) (BLOCK_LEN * block)
             (left_by (outcome_of (plan_of self.old)) (torn_of self.old) (blank BLOCK_LEN)) }
     {
@@ -174,6 +183,9 @@ impl Flash for MemoryFlash {
         ensures cause { FailsOnlyWhereRose result (plan_of self.old).faults (plan_of self.new).faults }
         ensures answer { IsOk result }
         ensures plan { plan_of self.new ≡ after_restart (plan_of self.old) }
+        ensures told { (state_of self.new).images_told ≡ ((state_of self.old).images_told && nat_lt (state_of self.old).moment (room_of self.old)) }
+        ensures room { room_of self.new ≡ room_of self.old }
+        ensures torn { torn_of self.new ≡ torn_of self.old }
         ensures bytes { bytes_of self.new ≡ bytes_of self.old }
     {
         self.power.restart();

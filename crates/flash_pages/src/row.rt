@@ -3,7 +3,7 @@ ghost use Rattle.port_io.specs.Faults.{FailsOnlyWhereRose};
 ghost use Rattle.flash_pages.specs.Bank.{start_of, end_of, bank_bytes, LiesInFlash, IsPlaceIn};
 ghost use Rattle.flash_pages.specs.Bytes.{blank, part, patch};
 ghost use Rattle.flash_pages.specs.Flash.{IsRange, Reads, Touches, LeavesOnly};
-ghost use Rattle.flash_pages.specs.Rows.{behind_gate, row_of, HasRows, RowIs, IsTornRow, EndsAt, HasRowsOrOneMore};
+ghost use Rattle.flash_pages.specs.Rows.{behind_gate, row_of, HasRows, RowIs, LiesBefore, IsTornRow, EndsAt, HasRowsOrOneMore};
 
 use crate::{BLOCK_LEN, Bank, Flash, PIECE_LEN};
 use port_io::Failed;
@@ -46,6 +46,7 @@ pub fn read_row<F: Flash>(flash: &mut F, bank: Bank, at: u32) -> Result<RowAt, F
     requires bank { LiesInFlash bank }
     requires place { IsPlaceIn bank at }
     ensures row { IfOk result (λ row. IfSome (F.state flash.old).bytes (λ bytes. RowIs at (part at (end_of bank - at) bytes) row)) }
+    ensures place { IfOk result (LiesBefore at (end_of bank)) }
     ensures reads { Reads (F.state flash.old) (F.state flash.new) }
     ensures cause { FailsOnlyWhereRose result (F.state flash.old).faults (F.state flash.new).faults }
 {
@@ -61,7 +62,8 @@ pub fn read_row<F: Flash>(flash: &mut F, bank: Bank, at: u32) -> Result<RowAt, F
 fn row_at(head: &[u8], at: u32, end: u32) -> RowAt
     requires place { at ≤ end }
     requires length { length head.now ≡ min 5 (end - at) }
-    ensures { (rest : List ℕ) → length rest ≡ end - at → head.now ≡ take 5 rest → RowIs at rest result }
+    ensures row { (rest : List ℕ) → length rest ≡ end - at → head.now ≡ take 5 rest → RowIs at rest result }
+    ensures place { LiesBefore at end result }
 {
     match head {
         [OPEN, a, b, c, d] => {
@@ -171,7 +173,7 @@ fn fill_behind_gate<B: Body>(body: &B, at: u32, out: &mut [u8])
 }
 
 // Copies to the front of `out` as much as both hold, and gives its length.
-fn copy_front(from: &[u8], out: &mut [u8]) -> usize
+pub(crate) fn copy_front(from: &[u8], out: &mut [u8]) -> usize
     ensures count { result ≡ min (length out.old) (length from.now) }
     ensures copied { out.new ≡ take result from.now ++ drop result out.old }
 {

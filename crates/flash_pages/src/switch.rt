@@ -24,6 +24,7 @@ pub fn read_switch<F: Flash>(flash: &mut F, block: u32) -> Result<Switch, Failed
         (λ bytes. switch.live ≡ live_of (part (BLOCK_LEN * block) BLOCK_LEN bytes))) }
     ensures next { IfOk result (λ switch. IfSome (F.state flash.old).bytes
         (λ bytes. IsNextByte (part (BLOCK_LEN * block) BLOCK_LEN bytes) switch.next)) }
+    ensures range { IfOk result (λ switch. (switch.live < 2) × IfSome switch.next (λ next. next < BLOCK_LEN)) }
     ensures reads { Reads (F.state flash.old) (F.state flash.new) }
     ensures cause { FailsOnlyWhereRose result (F.state flash.old).faults (F.state flash.new).faults }
 {
@@ -36,7 +37,8 @@ pub fn read_switch<F: Flash>(flash: &mut F, block: u32) -> Result<Switch, Failed
 }
 
 fn live(row: &[u8]) -> u8
-    ensures { result ≡ live_of row.now }
+    ensures live { result ≡ live_of row.now }
+    ensures range { result < 2 }
 {
     let opened = row.iter().filter(|byte| **byte == 0).count();
     (opened % 2) as u8
@@ -44,7 +46,8 @@ fn live(row: &[u8]) -> u8
 
 fn next_byte(row: &[u8]) -> Option<u16>
     requires { length row.now ≡ BLOCK_LEN }
-    ensures { IsNextByte row.now result }
+    ensures next { IsNextByte row.now result }
+    ensures range { IfSome result (λ next. next < BLOCK_LEN) }
 {
     let mut used = 0u16;
     'bytes: for (place, byte) in row.iter().enumerate() {

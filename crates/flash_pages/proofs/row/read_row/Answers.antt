@@ -13,4 +13,4 @@ returns-clause-row g c = from_each _ _ (λ bytes is.
     let whole : length (part c.args.at left bytes) ≡ left = length-take-le left (drop c.args.at bytes) (omega (arith, length-drop c.args.at bytes, size)) in
     let held : length (take c.min-held.result (0 ∷ 0 ∷ 0 ∷ 0 ∷ 0 ∷ [])) ≡ min 5 left = omega (arith, length-take {A = ℕ} c.min-held.result (0 ∷ 0 ∷ 0 ∷ 0 ∷ 0 ∷ []), c.min-held.ensures) in
     let front : c.read.new.buf ≡ take 5 (part c.args.at left bytes) = at_some _ _ bytes is c.in_ok-read.ensures.bytes ∙ ap (λ (k : ℕ). part c.args.at k bytes) held ∙ head_front left (drop c.args.at bytes) in
-    c.row_at.ensures (part c.args.at left bytes) whole front)
+    c.row_at.ensures.row (part c.args.at left bytes) whole front)

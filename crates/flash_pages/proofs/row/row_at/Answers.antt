@@ -2,8 +2,8 @@ use Rattle.std.proofs.Common.{◌≡◌, ◌≤◌, ◌-◌, ℕ, ◌<◌, lengt
 use Rattle.flash_pages.proofs.RowLemmas.{opens_at}
 use Rattle.flash_pages.proofs.row.row_at.Goals as goal
 
-pub returns-else-len-end : goal.returns-else-len-end
-returns-else-len-end c = λ rest size front.
+pub returns-else-len-end-clause-row : goal.returns-else-len-end-clause-row
+returns-else-len-end-clause-row c = λ rest size front.
     let long : length c.args.head.now ≡ 5 = omega arith in
     let gate : get_or c.args.head.now 0 0 ≡ 0 = search rules in
     let enough : c.from_be_bytes-len.result ≤ length (drop 5 rest) = omega (arith, length-drop 5 rest) in

@@ -7,7 +7,7 @@ use Rattle.flash_pages.specs.Left.{left_by, with_left}
 use Rattle.flash_pages.specs.Past.{Past, Write, after_call, content}
 use Rattle.flash_pages.specs.Plan.{outcome_of}
 use Rattle.flash_pages.proofs.Patches.{length-blank, length-patch}
-use Rattle.flash_pages.proofs.MemoryCalls.{Changes-memory, replays_after, content-write, repeated-nil, left_size, is_done-is, not_ok}
+use Rattle.flash_pages.proofs.MemoryCalls.{Changes-memory, replays_after, content-write, repeated-nil, left_size, is_done-is, not_ok, after_call-told, after_call-room}
 use Rattle.flash_pages.proofs.memory.MemoryFlashFlash.erase.Goals as goal
 
 pub returns-in_err-begin-clause-changes : goal.returns-in_err-begin-clause-changes
@@ -54,3 +54,17 @@ returns-clause-left c =
     c.tear.ensures ∙ ap (λ (l : List ℕ). patch l at (repeated [] 4096)) (c.deref_mut.ensures.value ∙ c.in_ok-begin.ensures.ok.0) ∙ ap (patch old.bytes.items at) (repeated-nil 4096) in
     with_items_is c.begin.new.self.bytes c.tear.new.content (c.tear.auto.content ∙ c.deref_mut.ensures.len) ∙ erased
     ∙ ap (λ (o : Outcome). with_left old.bytes.items at (left_by o old.history.torn (blank 4096))) (sym (is_done-is (outcome_of old.power) (sym c.in_ok-begin.ensures.answer)))
+
+pub returns-in_err-begin-clause-told : goal.returns-in_err-begin-clause-told
+returns-in_err-begin-clause-told c = ap (λ (past : Past). past.told) c.in_err-begin.ensures.err.1 ∙ after_call-told c.args.self.now.history.past _
+
+pub returns-in_err-begin-clause-room : goal.returns-in_err-begin-clause-room
+returns-in_err-begin-clause-room c = ap (λ (past : Past). past.room) c.in_err-begin.ensures.err.1 ∙ after_call-room c.args.self.now.history.past _
+
+pub returns-clause-told : goal.returns-clause-told
+returns-clause-told c =
+    ap (λ (past : Past). past.told) (c.keep.ensures.past ∙ ap (λ (past : Past). after_call past (Write (4096 * c.args.block) 4096 (Some (blank 4096)) true)) c.in_ok-begin.ensures.ok.1) ∙ after_call-told c.args.self.now.history.past _
+
+pub returns-clause-room : goal.returns-clause-room
+returns-clause-room c =
+    ap (λ (past : Past). past.room) (c.keep.ensures.past ∙ ap (λ (past : Past). after_call past (Write (4096 * c.args.block) 4096 (Some (blank 4096)) true)) c.in_ok-begin.ensures.ok.1) ∙ after_call-room c.args.self.now.history.past _

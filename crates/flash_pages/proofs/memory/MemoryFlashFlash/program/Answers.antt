@@ -5,7 +5,7 @@ use Rattle.flash_pages.specs.Bytes.{blank, patch}
 use Rattle.flash_pages.specs.Left.{left_by}
 use Rattle.flash_pages.specs.Past.{Past, Write, after_call}
 use Rattle.flash_pages.specs.Plan.{outcome_of}
-use Rattle.flash_pages.proofs.MemoryCalls.{Changes-memory, left_size, not_ok}
+use Rattle.flash_pages.proofs.MemoryCalls.{Changes-memory, left_size, not_ok, after_call-told, after_call-room}
 use Rattle.flash_pages.proofs.memory.MemoryFlashFlash.program.Goals as goal
 
 pub returns-in_err-begin-clause-changes : goal.returns-in_err-begin-clause-changes
@@ -29,3 +29,19 @@ returns-clause-changes c =
     Changes-memory old.history.past c.keep.new.self.past c.args.at (length kept) (Some kept) true old.bytes.items _ c.args.bytes.now _ _ _ _ _ _ (Ok tt)
     past_is old.replays (with_items_is c.begin.new.self.bytes c.put.new.content (c.put.auto.content ∙ c.deref_mut.ensures.len) ∙ put) (ap length (sym kept_is)) fits refl (λ says. ap Some kept_is) refl
     (omega (arith, c.begin.ensures.programmed)) (omega (arith, c.begin.ensures.erased)) c.begin.ensures.count
+
+pub returns-in_err-begin-clause-told : goal.returns-in_err-begin-clause-told
+returns-in_err-begin-clause-told c = ap (λ (past : Past). past.told) c.in_err-begin.ensures.err.1 ∙ after_call-told c.args.self.now.history.past _
+
+pub returns-in_err-begin-clause-room : goal.returns-in_err-begin-clause-room
+returns-in_err-begin-clause-room c = ap (λ (past : Past). past.room) c.in_err-begin.ensures.err.1 ∙ after_call-room c.args.self.now.history.past _
+
+pub returns-clause-told : goal.returns-clause-told
+returns-clause-told c =
+    let kept = c.try_extend_from_slice.new.self.items in
+    ap (λ (past : Past). past.told) (c.keep.ensures.past ∙ ap (λ (past : Past). after_call past (Write c.args.at (length kept) (Some kept) true)) c.in_ok-begin.ensures.ok.1) ∙ after_call-told c.args.self.now.history.past _
+
+pub returns-clause-room : goal.returns-clause-room
+returns-clause-room c =
+    let kept = c.try_extend_from_slice.new.self.items in
+    ap (λ (past : Past). past.room) (c.keep.ensures.past ∙ ap (λ (past : Past). after_call past (Write c.args.at (length kept) (Some kept) true)) c.in_ok-begin.ensures.ok.1) ∙ after_call-room c.args.self.now.history.past _
