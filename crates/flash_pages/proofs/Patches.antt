@@ -1,6 +1,6 @@
 -- Patches of a list of bytes, and lists that differ in one range alone.
-use Rattle.std.proofs.Common.{◌≡◌, ℕ, ◌+◌, ◌-◌, ◌≤◌, min, List, [], ◌∷◌, ◌++◌, length, take, drop, replicate, refl, sym, ◌∙◌, ap, arith, append_assoc, append-nil, length-append, length-drop, take-append-drop}
-use Rattle.std.proofs.lemmas.List.{take_at, drop_at, take-take, drop-drop, drop-take, take-replicate, drop-replicate, length-take, length-take-le, length-replicate}
+use Rattle.std.proofs.Common.{◌≡◌, ℕ, ◌+◌, ◌-◌, ◌<◌, ◌≤◌, get_or, min, List, [], ◌∷◌, ◌++◌, length, take, drop, replicate, refl, sym, ◌∙◌, ap, arith, append_assoc, append-nil, length-append, length-drop, take-append-drop}
+use Rattle.std.proofs.lemmas.List.{take_at, drop_at, take-take, drop-drop, drop-take, take-replicate, drop-replicate, length-take, length-take-le, length-replicate, get_or-replicate, ext_get_or}
 use Rattle.flash_pages.specs.Bytes.{blank, part, patch, DiffersIn}
 
 pub length-blank : (n : ℕ) → length (blank n) ≡ n
@@ -143,3 +143,8 @@ part-patch start size k b xs inside fits =
     is_patch k (part start size b) (part start size (patch b (start + k) xs)) xs
     (part-DiffersIn start size k (length xs) inside b (patch b (start + k) xs) (DiffersIn-patch b (start + k) xs fits))
     (part-part start size k (length xs) (patch b (start + k) xs) inside ∙ part-patch_same b (start + k) xs fits)
+
+-- bytes that are FF at each place
+pub blank_from_each : (bytes : List ℕ) → ((k : ℕ) → k < length bytes → get_or bytes k 0 ≡ 255) → bytes ≡ blank (length bytes)
+unfolding blank
+blank_from_each bytes each = ext_get_or 0 bytes (replicate (length bytes) 255) (sym (length-replicate (length bytes) 255)) (λ k below. each k below ∙ sym (get_or-replicate (length bytes) k 255 0 below))

@@ -17,3 +17,6 @@ pub use memory::MemoryFlash;
 pub use plan::FlashPlan;
 pub use row::{Body, RowAt, append_row, read_row};
 pub use switch::{Switch, read_switch};
+
+#[cfg(test)]
+mod tests;
