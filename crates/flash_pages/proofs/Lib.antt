@@ -5,3 +5,4 @@ pub mod Patches
 mod Pieces
 pub mod RowLemmas
 pub mod Touched
+pub mod Unique

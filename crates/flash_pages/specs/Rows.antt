@@ -28,6 +28,10 @@ IsClosed (gate ∷ rest) = gate ≢ 0
 abbrev pub HasRows : List ℕ → List (List ℕ) → Type 0
 HasRows bytes bodies = (rest : List ℕ) × (bytes ≡ rows_of bodies ++ rest) × IsClosed rest
 
+-- a bank has no two lists of open rows
+abbrev pub HasOneListOfRows : Type 0
+HasOneListOfRows = (bytes : List ℕ) (first second : List (List ℕ)) → length bytes < 2 ^ 32 → HasRows bytes first → HasRows bytes second → first ≡ second
+
 -- an open row with this body stands at the front
 abbrev pub BeginsWithRow : List ℕ → List ℕ → Type 0
 BeginsWithRow bytes body = (rest : List ℕ) × (bytes ≡ row_of body ++ rest)

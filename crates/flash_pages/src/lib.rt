@@ -15,7 +15,7 @@ pub use bank::Bank;
 pub use flash::{BLOCK_LEN, BLOCKS, FLASH_LEN, Flash, PIECE_LEN};
 pub use memory::MemoryFlash;
 pub use plan::FlashPlan;
-pub use row::{Body, RowAt, append_row, read_row};
+pub use row::{Body, RowAt, append_row, read_row, rows_are_unique};
 pub use switch::{Switch, read_switch};
 
 #[cfg(test)]

@@ -3,7 +3,7 @@ ghost use Rattle.port_io.specs.Faults.{FailsOnlyWhereRose};
 ghost use Rattle.flash_pages.specs.Bank.{start_of, end_of, bank_bytes, LiesInFlash, IsPlaceIn};
 ghost use Rattle.flash_pages.specs.Bytes.{blank, part, patch};
 ghost use Rattle.flash_pages.specs.Flash.{IsRange, Reads, Touches, LeavesOnly};
-ghost use Rattle.flash_pages.specs.Rows.{behind_gate, row_of, HasRows, RowIs, LiesBefore, IsTornRow, EndsAt, HasRowsOrOneMore};
+ghost use Rattle.flash_pages.specs.Rows.{behind_gate, row_of, HasRows, HasOneListOfRows, RowIs, LiesBefore, IsTornRow, EndsAt, HasRowsOrOneMore};
 
 use crate::{BLOCK_LEN, Bank, Flash, PIECE_LEN};
 use port_io::Failed;
@@ -40,6 +40,11 @@ pub enum RowAt {
     /// An open row that doesn't lie in the bank.
     Overrun,
 }
+
+/// That a bank has no two lists of open rows. There is nothing to run.
+pub fn rows_are_unique()
+    ensures { HasOneListOfRows }
+{}
 
 /// Reads what stands at a place in a bank.
 pub fn read_row<F: Flash>(flash: &mut F, bank: Bank, at: u32) -> Result<RowAt, Failed>
