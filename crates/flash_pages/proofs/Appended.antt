@@ -1,5 +1,5 @@
 -- A row appended in two steps: what stands behind its gate, and the gate.
-use Rattle.std.proofs.Common.{◌≡◌, inl, inr, ℕ, ◌+◌, ◌-◌, ◌≤◌, IsTrue, List, [], ◌∷◌, ◌++◌, length, Option, Some, IfSome, Result, Ok, Err, IsErr, is_ok, OnOk, refl, sym, ◌∙◌, ap, subst, arith}
+use Rattle.std.proofs.Common.{◌≡◌, inl, inr, ℕ, ◌+◌, ◌-◌, ◌≤◌, IsTrue, List, [], ◌∷◌, ◌++◌, length, Some, IfSome, Result, Ok, Err, IsErr, is_ok, OnOk, sym, ◌∙◌, ap, arith}
 use Rattle.std.proofs.lemmas.Bool.{false≢true}
 use Rattle.flash_pages.specs.declared.bank.Bank.{Bank}
 use Rattle.flash_pages.specs.Bank.{start_of, end_of, bank_bytes}
@@ -7,8 +7,8 @@ use Rattle.flash_pages.specs.Bytes.{blank, part, patch, DiffersIn}
 use Rattle.flash_pages.specs.Flash.{FlashState, IsFlash, HasImages, LeavesOnly, Changes, Touches}
 use Rattle.flash_pages.specs.Rows.{behind_gate, row_of, HasRows, IsTornRow, EndsAt, HasRowsOrOneMore}
 use Rattle.flash_pages.proofs.Patches.{patch_gate, part_before, part-blank, take-patch-front}
-use Rattle.flash_pages.proofs.Touched.{at_some, from_each, told_after, same_some, LeavesOnly-trans, Touches-wider, Touches-trans, Touches-from_changes}
-use Rattle.flash_pages.proofs.RowLemmas.{length-behind_gate, length-row_of}
+use Rattle.flash_pages.proofs.Touched.{at_some, from_each, same_some, LeavesOnly-trans, Touches-wider, Touches-trans, Touches-from_changes}
+use Rattle.flash_pages.proofs.RowLemmas.{length-behind_gate}
 use Rattle.flash_pages.proofs.Outcome.{torn_in_bank, appended_in_bank}
 
 -- nothing is said of an Ok where there is none

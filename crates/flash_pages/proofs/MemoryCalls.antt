@@ -1,17 +1,17 @@
 -- What a call of a flash in memory does to what contracts see of it.
-use Rattle.std.proofs.Common.{◌≡◌, ◌⊎◌, ◌↔◌, inl, inr, ⊎_elim, ℕ, zero, suc, ◌+◌, ◌≤◌, Bool, true, false, IsTrue, ◌&&◌, nat_lt, cond, if◌then◌else◌, List, [], ◌∷◌, length, Option, Some, None, IsSome, IfSome, Result, Ok, Err, IsErr, is_ok, map, refl, sym, ◌∙◌, ap, subst, arith}
+use Rattle.std.proofs.Common.{◌≡◌, ◌⊎◌, ◌↔◌, inl, inr, ⊎_elim, ℕ, zero, suc, ◌+◌, ◌≤◌, Bool, true, false, IsTrue, ◌&&◌, nat_lt, if◌then◌else◌, List, [], ◌∷◌, length, Option, Some, None, IfSome, Result, Ok, Err, IsErr, is_ok, refl, sym, ◌∙◌, ap, subst, arith}
 use Rattle.std.specs.List.{range_with_len}
 use Rattle.std.proofs.lemmas.Bool.{false≢true}
 use Rattle.std.proofs.lemmas.List.{get_or-replicate, length-map}
 use Rattle.std.proofs.lemmas.List.FromFn.{fill_by_all}
 use Rattle.flash_pages.specs.Bytes.{blank, patch, DiffersIn, torn_byte, repeated}
-use Rattle.flash_pages.specs.Flash.{FlashState, KeepsImages, GoesOn, HasImages, Reads, Changes, Restarts}
+use Rattle.flash_pages.specs.Flash.{GoesOn, Reads, Changes, Restarts}
 use Rattle.flash_pages.specs.declared.plan.Outcome.{Outcome}
 use Rattle.flash_pages.specs.declared.plan.Outcome.TheVariants.{Done, Torn, Off}
 use Rattle.flash_pages.specs.Left.{left_by, with_left}
 use Rattle.flash_pages.specs.Plan.{is_done}
 use Rattle.flash_pages.specs.Past.{Call, Write, Restarted, content, last_ok, Since, Past, after_call, memory_state, last_ok-le, Since-now, Since-only, Since-earlier}
-use Rattle.flash_pages.proofs.Patches.{length-blank, length-patch, DiffersIn-refl, DiffersIn-patch}
+use Rattle.flash_pages.proofs.Patches.{length-blank, DiffersIn-refl, DiffersIn-patch}
 
 -- torn bytes, of which there are none, are FF
 pub repeated-nil : (n : ℕ) → repeated [] n ≡ blank n

@@ -1,5 +1,5 @@
 -- One more piece of a list that is programmed piece by piece.
-use Rattle.std.proofs.Common.{◌≡◌, ℕ, ◌+◌, ◌≤◌, IsTrue, List, ◌++◌, length, take, drop, Some, IfSome, Result, is_ok, sym, ◌∙◌, ap, subst, arith}
+use Rattle.std.proofs.Common.{◌≡◌, ℕ, ◌+◌, ◌≤◌, IsTrue, List, ◌++◌, length, take, drop, Some, IfSome, Result, is_ok, sym, ◌∙◌, ap, arith}
 use Rattle.std.proofs.lemmas.List.{length-take-le}
 use Rattle.std.proofs.Math.Seq.{take-add}
 use Rattle.flash_pages.specs.Bytes.{blank, part, patch}

@@ -1,8 +1,8 @@
 -- How a run of calls on a flash goes on.
-use Rattle.std.proofs.Common.{◌≡◌, ◌⊎◌, inl, inr, ⊎_elim, ℕ, ◌+◌, ◌≤◌, Bool, IsTrue, List, length, Option, Some, None, IsSome, IfSome, Result, refl, sym, ◌∙◌, subst, arith}
+use Rattle.std.proofs.Common.{◌≡◌, ◌⊎◌, inl, inr, ⊎_elim, ℕ, ◌+◌, ◌≤◌, IsTrue, List, length, Option, Some, None, IsSome, IfSome, Result, refl, sym, ◌∙◌, subst, arith}
 use Rattle.std.proofs.lemmas.Bool.{false≢true}
 use Rattle.flash_pages.specs.Bytes.{DiffersIn}
-use Rattle.flash_pages.specs.Flash.{FlashState, IsFlash, HasMoments, IsSettled, KeepsImages, GoesOn, LeavesOnly, Changes, Restarts, Touches}
+use Rattle.flash_pages.specs.Flash.{FlashState, IsFlash, IsSettled, GoesOn, LeavesOnly, Changes, Restarts, Touches}
 use Rattle.flash_pages.proofs.Patches.{DiffersIn-refl, DiffersIn-trans, DiffersIn-wider}
 
 -- what holds where something is told holds of what is told

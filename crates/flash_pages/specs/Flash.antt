@@ -2,7 +2,7 @@
 --
 -- Moments are numbers. Between two calls there is one image, which is what reads give. Inside a call there is each
 -- image that a power cut at that moment may leave.
-use Rattle.std.specs.Prelude.{◌≡◌, ◌⊎◌, ◌↔◌, ℕ, ◌+◌, ◌*◌, ◌%◌, ◌<◌, ◌≤◌, Bool, IsTrue, List, length, Option, Some, IsSome, IfSome, Result, is_ok, if◌then◌else◌}
+use Rattle.std.specs.Prelude.{◌≡◌, ◌⊎◌, ◌↔◌, ℕ, ◌+◌, ◌%◌, ◌<◌, ◌≤◌, Bool, IsTrue, List, length, Option, Some, IsSome, IfSome, Result, is_ok, if◌then◌else◌}
 use Rattle.port_io.specs.Faults.{NeverFalls}
 use Rattle.flash_pages.specs.declared.flash.TheConstants.{BLOCK_LEN, FLASH_LEN, PIECE_LEN}
 use Rattle.flash_pages.specs.Bytes.{blank, patch, DiffersIn}
@@ -31,6 +31,8 @@ pub record HasMoments (flash : FlashState) : Type 0 where
 -- what holds of every flash
 pub record IsFlash (flash : FlashState) : Type 0 where
   pub size : IfSome flash.bytes (λ bytes. length bytes ≡ FLASH_LEN)
+  -- a flash that tells its images tells what reads give
+  pub bytes_told : IsTrue flash.images_told → IsSome flash.bytes
   pub last_ok : flash.last_ok ≤ flash.moment
   pub moments : IsTrue flash.images_told → HasMoments flash
 

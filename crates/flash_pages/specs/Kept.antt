@@ -4,7 +4,7 @@ use Rattle.flash_pages.specs.declared.history.Kept.{Kept}
 use Rattle.flash_pages.specs.declared.history.Kept.TheVariants.{Program, Erase, Torn, Off, Restart}
 use Rattle.flash_pages.specs.declared.flash.TheConstants.{BLOCK_LEN}
 use Rattle.flash_pages.specs.Bytes.{blank, repeated}
-use Rattle.flash_pages.specs.Past.{Call, Write, Restarted, Past, after_call}
+use Rattle.flash_pages.specs.Past.{Call, Write, Restarted, Past}
 
 abbrev pub call_of : List ℕ → Kept → Call
 call_of torn (Program at bytes) = Write at (length bytes.items) (Some bytes.items) true

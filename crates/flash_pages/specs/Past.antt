@@ -1,10 +1,10 @@
 -- The calls that a flash in memory keeps, the newest first, and the images that follow from them.
-use Rattle.std.specs.Prelude.{◌≡◌, ◌⊎◌, ℕ, suc, ◌*◌, ◌≤◌, Bool, true, false, IsTrue, ◌&&◌, nat_lt, if◌then◌else◌, List, [], ◌∷◌, length, Option, Some, None}
+use Rattle.std.specs.Prelude.{◌≡◌, ◌⊎◌, ℕ, suc, ◌≤◌, Bool, true, false, IsTrue, ◌&&◌, nat_lt, if◌then◌else◌, List, [], ◌∷◌, length, Option, Some, None, refl}
 use Rattle.std.proofs.Common.{inl, inr, ⊎_elim, sym, ◌∙◌, ap}
 use Rattle.std.proofs.Math.Nat.{le_refl, le_trans, le-suc, not-suc-le_self}
 use Rattle.flash_pages.specs.declared.flash.TheConstants.{FLASH_LEN}
 use Rattle.flash_pages.specs.Bytes.{blank, patch, DiffersIn}
-use Rattle.flash_pages.specs.Flash.{FlashState, IsFlash, HasMoments}
+use Rattle.flash_pages.specs.Flash.{FlashState, IsFlash}
 
 pub data Call : Type 0 where
   -- a program or an erase of n bytes: what it left there, or none where it did nothing, and whether it answered Ok
@@ -104,6 +104,7 @@ pub IsFlash-memory : (past : Past) (bytes : List ℕ) (programmed erased faults 
     → IsFlash (memory_state past bytes programmed erased faults)
 IsFlash-memory past bytes programmed erased faults sized replays = record {
   size = sized;
+  bytes_told = λ told. refl;
   last_ok = last_ok-le past.calls;
   moments = λ told. record {
     now = λ t image le is. Since-now past.calls t image (sym (same_bytes bytes image is) ∙ sym (replays told));

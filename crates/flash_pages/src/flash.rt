@@ -1,4 +1,4 @@
-ghost use Rattle.std.specs.Prelude.{◌≡◌, ◌*◌, ◌<◌, ◌+◌, length, Option, IfSome, OnOk};
+ghost use Rattle.std.specs.Prelude.{◌≡◌, ◌*◌, ◌<◌, length, IfSome, OnOk};
 ghost use Rattle.port_io.specs.Faults.{FailsOnlyWhereRose, one_more};
 ghost use Rattle.flash_pages.specs.Bytes.{blank, part};
 ghost use Rattle.flash_pages.specs.Flash.{FlashState, IsFlash, IsRange, IsPiece, Reads, Changes, Restarts};

@@ -1,6 +1,7 @@
-ghost use Rattle.std.specs.Prelude.{◌≡◌, ◌*◌, ◌<◌, ◌+◌, length, IfOk, IfSome, OnOk, OnErr, is_ok, IsOk, IsTrue, false, ◌&&◌, nat_lt};
+ghost use Rattle.std.specs.Prelude.{◌≡◌, ◌*◌, ◌<◌, ◌+◌, length, IfOk, OnOk, OnErr, is_ok, IsOk, IsTrue, false, ◌&&◌, nat_lt};
 ghost use Rattle.port_io.specs.Faults.{FailsOnlyWhereRose, NeverFalls, one_more};
 ghost use Rattle.flash_pages.specs.Bytes.{blank, part};
+ghost use Rattle.flash_pages.specs.declared.flash.TheConstants.{FLASH_LEN};
 ghost use Rattle.flash_pages.specs.Flash.{IsFresh, IsRange, IsPiece, Reads, Changes, Restarts};
 ghost use Rattle.flash_pages.specs.Left.{left_by, with_left};
 ghost use Rattle.flash_pages.specs.Past.{content, after_call, Write, IsFlash-memory};
@@ -22,7 +23,7 @@ pub struct MemoryFlash {
     history: CallRecord,
     programmed: u64,
     erased: u64,
-    ghost sized: { length bytes.items ≡ 9965568 },
+    ghost sized: { length bytes.items ≡ FLASH_LEN },
     ghost replays: { IsTrue history.past.told → content history.past.calls ≡ bytes.items },
 }
 

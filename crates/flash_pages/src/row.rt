@@ -1,4 +1,4 @@
-ghost use Rattle.std.specs.Prelude.{◌≡◌, ◌+◌, ◌-◌, ◌%◌, ◌<◌, ◌≤◌, [], ◌∷◌, ◌++◌, ℕ, List, min, length, take, drop, Some, IfOk, OnOk, IfSome, IsTrue};
+ghost use Rattle.std.specs.Prelude.{◌≡◌, ◌+◌, ◌-◌, ◌%◌, ◌<◌, ◌≤◌, [], ◌∷◌, ◌++◌, ℕ, List, min, length, take, drop, Some, IfOk, OnOk, IfSome};
 ghost use Rattle.port_io.specs.Faults.{FailsOnlyWhereRose};
 ghost use Rattle.flash_pages.specs.Bank.{start_of, end_of, bank_bytes, LiesInFlash, IsPlaceIn};
 ghost use Rattle.flash_pages.specs.Bytes.{blank, part, patch};

@@ -1,4 +1,4 @@
-ghost use Rattle.std.specs.Prelude.{◌≡◌, ◌*◌, ◌<◌, length, IfOk, IfSome, count_by, ◌==◌};
+ghost use Rattle.std.specs.Prelude.{◌≡◌, ◌*◌, ◌<◌, length, IfOk, IfSome, ◌==◌};
 ghost use Rattle.port_io.specs.Faults.{FailsOnlyWhereRose};
 ghost use Rattle.flash_pages.specs.Bytes.{part};
 ghost use Rattle.flash_pages.specs.Flash.{Reads};

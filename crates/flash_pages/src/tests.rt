@@ -98,12 +98,25 @@ fn row_lengths<F: Flash>(alloc: Global, flash: &mut F, bank: Bank) -> Result<Vec
     Ok(lengths)
 }
 
-fn bytes_at<F: Flash>(alloc: Global, flash: &mut F, at: u32, len: usize) -> Result<Vec<u8>, Fail>
-    requires { IsRange at len }
-{
-    let mut buffer = vec![in alloc; 0; len]?;
-    flash.read(at, &mut buffer)?;
-    Ok(buffer)
+/// Whether these bytes stand at a place, or none where the read fails.
+fn reads<F: Flash>(flash: &mut F, at: u32, wanted: &[u8]) -> Option<bool> {
+    let mut buffer = [0u8; 16];
+    if wanted.len() > 16 || at > FLASH_LEN - 16 {
+        return Some(false);
+    }
+    let found = &mut buffer[..wanted.len()];
+    match flash.read(at, found) {
+        Ok(()) => Some(*found == *wanted),
+        Err(Failed) => None,
+    }
+}
+
+fn try_erase<F: Flash>(flash: &mut F, block: u32) -> bool {
+    block < BLOCKS && flash.erase(block).is_ok()
+}
+
+fn restarts<F: Flash>(flash: &mut F) -> bool {
+    flash.restart().is_ok()
 }
 
 fn flash_with(
@@ -136,29 +149,19 @@ fn a_failure_leaves_the_torn_bytes_over_and_over(rt: HostRuntime) -> Result<(), 
     ];
     for (torn, left) in table {
         let mut flash = flash_with(alloc, &[1, 3], None, torn)?;
-        assert_eq!(rt; try_program(&mut flash, 10, b"hello"), Some(Err(Failed)));
+        let failed = try_program(&mut flash, 10, b"hello") == Some(Err(Failed));
+        let torn_range = reads(&mut flash, 10, &left);
+        let behind = reads(&mut flash, 15, &[0xff; 5]);
+        let programmed = try_program(&mut flash, 20, b"hello") == Some(Ok(()));
+        let range = reads(&mut flash, 20, b"hello");
+        let erase_failed = !try_erase(&mut flash, 1);
+        let torn_block = reads(&mut flash, 4096, &left);
+        let erased = try_erase(&mut flash, 1);
+        let block = reads(&mut flash, 4096, &[0xff; 5]);
+        assert!(rt; failed && programmed && erase_failed && erased);
         assert_eq!(rt;
-            bytes_at(alloc, &mut flash, 10, 5)?.as_slice(),
-            left.as_slice()
-        );
-        assert_eq!(rt;
-            bytes_at(alloc, &mut flash, 15, 1)?.as_slice(),
-            [0xff].as_slice()
-        );
-        assert_eq!(rt; try_program(&mut flash, 20, b"hello"), Some(Ok(())));
-        assert_eq!(rt;
-            bytes_at(alloc, &mut flash, 20, 5)?.as_slice(),
-            b"hello".as_slice()
-        );
-        assert_eq!(rt; flash.erase(1), Err(Failed));
-        assert_eq!(rt;
-            bytes_at(alloc, &mut flash, 4096, 5)?.as_slice(),
-            left.as_slice()
-        );
-        assert_eq!(rt; flash.erase(1), Ok(()));
-        assert_eq!(rt;
-            bytes_at(alloc, &mut flash, 4096, 5)?.as_slice(),
-            [0xff; 5].as_slice()
+            [torn_range, behind, range, torn_block, block],
+            [Some(true); 5]
         );
         assert_eq!(rt; flash.faults(), 2);
     }
@@ -170,21 +173,17 @@ fn after_a_cut_nothing_works_until_the_restart(rt: HostRuntime) -> Result<(), Fa
     let alloc = rt.alloc();
     let mut flash = flash_with(alloc, &[], Some(2), &[0x5a])?;
     assert_eq!(rt; flash.blocks(), 2433);
-    assert_eq!(rt; try_program(&mut flash, 0, b"one"), Some(Ok(())));
-    assert_eq!(rt; flash.erase(1), Err(Failed));
-    assert_eq!(rt; flash.erase(0), Err(Failed));
-    let mut buf = [0; 3];
-    assert_eq!(rt; flash.read(0, &mut buf), Err(Failed));
-    assert_eq!(rt; flash.restart(), Ok(()));
-    assert_eq!(rt;
-        bytes_at(alloc, &mut flash, 0, 3)?.as_slice(),
-        b"one".as_slice()
-    );
-    assert_eq!(rt;
-        bytes_at(alloc, &mut flash, 8191, 2)?.as_slice(),
-        [0x5a, 0xff].as_slice()
-    );
-    assert_eq!(rt; flash.erase(1), Ok(()));
+    let before = try_program(&mut flash, 0, b"one") == Some(Ok(()));
+    let cut = !try_erase(&mut flash, 1);
+    let off = !try_erase(&mut flash, 0);
+    let read_off = reads(&mut flash, 0, b"one");
+    let on = restarts(&mut flash);
+    assert!(rt; before && cut && off && on);
+    assert_eq!(rt; read_off, None);
+    let kept = reads(&mut flash, 0, b"one");
+    let torn = reads(&mut flash, 8191, &[0x5a, 0xff]);
+    assert_eq!(rt; [kept, torn], [Some(true); 2]);
+    assert!(rt; try_erase(&mut flash, 1));
     assert_eq!(rt; flash.faults(), 3);
     Ok(())
 }
@@ -201,14 +200,15 @@ fn a_flash_with_little_room_goes_on(rt: HostRuntime) -> Result<(), Fail> {
         kept: 1,
     };
     let mut flash = MemoryFlash::new(alloc, plan)?;
-    assert_eq!(rt; flash.erase(0), Ok(()));
-    assert_eq!(rt; flash.erase(1), Ok(()));
-    assert_eq!(rt; flash.restart(), Ok(()));
-    let mut buf = [0; 2];
-    for outcome in [Ok(()), Err(Failed), Ok(())] {
-        assert_eq!(rt; flash.read(4095, &mut buf), outcome);
+    let worked = [
+        try_erase(&mut flash, 0),
+        try_erase(&mut flash, 1),
+        restarts(&mut flash),
+    ];
+    assert_eq!(rt; worked, [true; 3]);
+    for outcome in [Some(true), None, Some(true)] {
+        assert_eq!(rt; reads(&mut flash, 4095, &[0xff, 0xff]), outcome);
     }
-    assert_eq!(rt; buf, [0xff, 0xff]);
     Ok(())
 }
 
@@ -219,22 +219,23 @@ fn rows_of_each_length_are_read_back(rt: HostRuntime) -> Result<(), Fail> {
     let mut flash = flash_with(alloc, &[], None, &[])?;
     let text = vec![in alloc; 0x42; 4091]?;
     let mut at = 4096;
-    for len in [0, 1, 256, 4091, 7] {
-        let (body, _) = text.split_at(len);
-        let next = try_append(alloc, &mut flash, at, body).ok_or("no room")??;
-        assert_eq!(rt; next, at + 5 + len as u32);
-        at = next;
+    for (len, next) in [(0, 4101), (1, 4107), (256, 4368), (4091, 8464), (7, 8476)] {
+        let body = text.get(..len).ok_or("too long")?;
+        at = try_append(alloc, &mut flash, at, body).ok_or("no room")??;
+        assert_eq!(rt; at, next);
     }
-    assert_eq!(rt;
-        row_lengths(alloc, &mut flash, BANK)?.as_slice(),
-        [0, 1, 256, 4091, 7].as_slice()
+    let lengths = row_lengths(alloc, &mut flash, BANK)?;
+    assert_eq!(rt; lengths.as_slice(), [0, 1, 256, 4091, 7].as_slice());
+    let first = reads(&mut flash, 4096, &[0, 0, 0, 0, 0, 0, 0, 0, 0, 1, 0x42, 0]);
+    let border = reads(&mut flash, 8188, &[0x42; 8]);
+    let last = reads(
+        &mut flash,
+        8464,
+        &[
+            0, 0, 0, 0, 7, 0x42, 0x42, 0x42, 0x42, 0x42, 0x42, 0x42, 0xff,
+        ],
     );
-    assert_eq!(rt;
-        bytes_at(alloc, &mut flash, 4096, 12)?.as_slice(),
-        [0, 0, 0, 0, 0, 0, 0, 0, 0, 1, 0x42, 0].as_slice()
-    );
-    assert_eq!(rt; read_row(&mut flash, BANK, at), Ok(RowAt::End));
-    assert_eq!(rt; read_row(&mut flash, BANK, 20_480), Ok(RowAt::End));
+    assert_eq!(rt; [first, border, last], [Some(true); 3]);
     Ok(())
 }
 
@@ -242,24 +243,38 @@ fn rows_of_each_length_are_read_back(rt: HostRuntime) -> Result<(), Fail> {
 fn a_row_that_does_not_lie_in_the_bank_overruns(rt: HostRuntime) -> Result<(), Fail> {
     let alloc = rt.alloc();
     let mut flash = flash_with(alloc, &[], None, &[])?;
+    let last = RowAt::Open {
+        body: 4111,
+        len: 0x3ff1,
+        next: 20_480,
+    };
     for (at, bytes, found) in [
         (4096, [0u8, 0, 0, 0x3f, 0xfc].as_slice(), RowAt::Overrun),
-        (
-            4106,
-            &[0, 0, 0, 0x3f, 0xf1],
-            RowAt::Open {
-                body: 4111,
-                len: 0x3ff1,
-                next: 20_480,
-            },
-        ),
+        (4106, &[0, 0, 0, 0x3f, 0xf1], last),
         (20_476, &[0], RowAt::Overrun),
         (20_470, &[0x5a], RowAt::End),
     ] {
         assert_eq!(rt; try_program(&mut flash, at, bytes), Some(Ok(())));
         assert_eq!(rt; read_row(&mut flash, BANK, at), Ok(found), "at {at}");
     }
+    assert_eq!(rt; read_row(&mut flash, BANK, 20_480), Ok(RowAt::End));
     Ok(())
+}
+
+/// The rows after an append of one row and then of another, which is cut in this call.
+fn rows_after_cut(
+    alloc: Global,
+    torn: &[u8],
+    call: u64,
+    text: &[u8],
+) -> Result<(bool, Vec<u32>), Fail> {
+    let mut flash = flash_with(alloc, &[], Some(call), torn)?;
+    let at = try_append(alloc, &mut flash, 4096, b"first").ok_or("no room")??;
+    let appended = try_append(alloc, &mut flash, at, text)
+        .ok_or("no room")?
+        .is_ok();
+    let on = restarts(&mut flash);
+    Ok((appended && on, row_lengths(alloc, &mut flash, BANK)?))
 }
 
 // A row of 600 bytes behind one of five takes three calls for length and body and one for the gate. Only a gate torn
@@ -272,13 +287,9 @@ fn an_append_that_is_cut_leaves_the_rows_of_before_or_one_more(
     let text = vec![in alloc; 0x42; 600]?;
     for torn in [[].as_slice(), &[0x00], &[0xff], &[0x5a]] {
         for call in 3..8 {
-            let mut flash = flash_with(alloc, &[], Some(call), torn)?;
-            let at = try_append(alloc, &mut flash, 4096, b"first").ok_or("no room")??;
-            let appended = try_append(alloc, &mut flash, at, &text).ok_or("no room")?;
-            assert_eq!(rt; appended.is_ok(), call == 7, "call {call}");
-            assert_eq!(rt; flash.restart(), Ok(()));
+            let (appended, lengths) = rows_after_cut(alloc, torn, call, &text)?;
+            assert_eq!(rt; appended, call == 7, "call {call}");
             let opened = call == 7 || (call == 6 && torn == [0x00].as_slice());
-            let lengths = row_lengths(alloc, &mut flash, BANK)?;
             let wanted: &[u32] = if opened { &[5, 600] } else { &[5] };
             assert_eq!(rt; lengths.as_slice(), wanted, "call {call}");
         }
@@ -290,13 +301,11 @@ fn an_append_that_is_cut_leaves_the_rows_of_before_or_one_more(
 fn a_switch_row_counts_its_zeros(rt: HostRuntime) -> Result<(), Fail> {
     let alloc = rt.alloc();
     let mut flash = flash_with(alloc, &[], None, &[])?;
-    assert_eq!(rt;
-        read_switch(&mut flash, 0),
-        Ok(Switch {
-            live: 0,
-            next: Some(0)
-        })
-    );
+    let blank = Switch {
+        live: 0,
+        next: Some(0),
+    };
+    assert_eq!(rt; read_switch(&mut flash, 0), Ok(blank));
     for (at, byte, live, next) in [
         (0, 0x00, 1, Some(1)),
         (1, 0x5a, 1, Some(2)),

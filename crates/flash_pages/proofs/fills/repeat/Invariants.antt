@@ -1,4 +1,4 @@
-use Rattle.std.proofs.Common.{◌≡◌, ◌<◌, ℕ, get_or, length}
+use Rattle.std.proofs.Common.{◌≡◌, ◌<◌, ℕ, get_or}
 use Rattle.flash_pages.specs.Bytes.{torn_byte}
 use Rattle.flash_pages.proofs.fills.repeat.Given as goal
 
