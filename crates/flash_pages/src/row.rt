@@ -2,7 +2,7 @@ ghost use Rattle.std.specs.Prelude.{◌≡◌, ◌+◌, ◌-◌, ◌%◌, ◌<�
 ghost use Rattle.port_io.specs.Faults.{FailsOnlyWhereRose};
 ghost use Rattle.flash_pages.specs.Bank.{start_of, end_of, bank_bytes, LiesInFlash, IsPlaceIn};
 ghost use Rattle.flash_pages.specs.Bytes.{blank, part, patch};
-ghost use Rattle.flash_pages.specs.Flash.{IsRange, Reads, Touches, LeavesOnly};
+ghost use Rattle.flash_pages.specs.Flash.{IsRange, IsSettled, Reads, Touches, LeavesOnly};
 ghost use Rattle.flash_pages.specs.Rows.{behind_gate, row_of, HasRows, HasOneListOfRows, RowIs, LiesBefore, IsTornRow, EndsAt, HasRowsOrOneMore};
 
 use crate::{BLOCK_LEN, Bank, Flash, PIECE_LEN};
@@ -105,6 +105,7 @@ pub fn append_row<F: Flash, B: Body>(
     ensures next { IfOk result (λ next. next ≡ at + 5 + length (B.bytes body.now)) }
     ensures done { OnOk result (IfSome (F.state flash.old).bytes
         (λ before. (F.state flash.new).bytes ≡ Some (patch before at (row_of (B.bytes body.now))))) }
+    ensures lasts { OnOk result (IsSettled (F.state flash.new)) }
 
     // A cut or a failure leaves a torn row, and all else as it was.
     ensures touches { Touches at (5 + length (B.bytes body.now)) (F.state flash.old) (F.state flash.new) }

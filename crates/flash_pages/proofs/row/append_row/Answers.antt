@@ -1,7 +1,7 @@
 use Rattle.std.proofs.Common.{◌≡◌, ◌+◌, ◌≤◌, ◌∙◌, ap, sym, ℕ, Ok, length, refl, arith}
 use Rattle.flash_pages.specs.Bytes.{part, patch}
 use Rattle.flash_pages.specs.Rows.{behind_gate}
-use Rattle.flash_pages.proofs.Touched.{at_some, from_each, told_before, same_some}
+use Rattle.flash_pages.proofs.Touched.{at_some, from_each, told_before, same_some, settled_now}
 use Rattle.flash_pages.proofs.Appended.{on_err, torn_first, touches_first, touches_both, torn_both, done_both, gate_erased, rest_erased, rows_after}
 use Rattle.flash_pages.proofs.row.append_row.Goals as goal
 
@@ -71,3 +71,6 @@ returns-clause-rows g c =
     rows_after {T = ℕ} {E = ℕ} (g.F.Flash.state c.args.flash.now) (g.F.Flash.state c.program.new.self) c.args.bank c.args.at (g.B.Body.bytes c.args.body.now) (Ok 0) (g.met.F.Flash.lawful _) c.requires.place.from_start c.requires.fits c.requires.bank
     (torn_both _ _ _ c.args.at (g.B.Body.bytes c.args.body.now) _ (g.met.F.Flash.lawful _) c.program_behind_gate.ensures.touches c.in_ok-program_behind_gate.ensures.done c.program.ensures.changes)
     (λ before is fits. done_both _ _ _ c.args.at (g.B.Body.bytes c.args.body.now) _ (g.met.F.Flash.lawful _) c.program_behind_gate.ensures.touches c.in_ok-program_behind_gate.ensures.done c.in_ok-program.ensures.changes refl before is fits)
+
+pub returns-clause-lasts : goal.returns-clause-lasts
+returns-clause-lasts g c = settled_now _ (g.met.F.Flash.lawful c.program.new.self) c.in_ok-program.ensures.changes.last_ok
