@@ -1,0 +1,8 @@
+mod Appended
+mod MemoryCalls
+pub mod Outcome
+pub mod Patches
+mod Pieces
+pub mod RowLemmas
+pub mod Touched
+pub mod Unique

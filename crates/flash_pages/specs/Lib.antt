@@ -1,0 +1,10 @@
+pub mod Bank
+pub mod Bytes
+pub mod Flash
+pub mod Kept
+pub mod Left
+pub mod Memory
+pub mod Past
+pub mod Plan
+pub mod Rows
+pub mod Switch

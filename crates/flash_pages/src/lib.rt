@@ -1,0 +1,22 @@
+//! A flash as a store sees it: what reads give, and what a power cut at any moment may leave. On it rows that count
+//! only once their gate byte reads 00.
+#![tactic(auto)]
+
+mod bank;
+mod fills;
+mod flash;
+mod history;
+mod memory;
+mod plan;
+mod row;
+mod switch;
+
+pub use bank::Bank;
+pub use flash::{BLOCK_LEN, BLOCKS, FLASH_LEN, Flash, PIECE_LEN};
+pub use memory::MemoryFlash;
+pub use plan::FlashPlan;
+pub use row::{Body, RowAt, append_row, read_row, rows_are_unique};
+pub use switch::{Switch, read_switch};
+
+#[cfg(test)]
+mod tests;
