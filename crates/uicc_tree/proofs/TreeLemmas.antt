@@ -1,9 +1,14 @@
-use Rattle.std.proofs.Common.{◌≡◌, ℕ, zero, suc, ◌+◌, ◌-◌, ◌<◌, List, ◌∷◌, [], ◌++◌, map, length, All, Contains, get_or, take, refl, sym, ◌∙◌, ap, arith}
+use Rattle.std.proofs.Common.{◌≡◌, ℕ, zero, suc, ◌+◌, ◌-◌, ◌<◌, List, ◌∷◌, [], ◌++◌, map, length, Contains, get_or, take, Bool, None, refl, sym, ◌∙◌, ap, arith}
 use Rattle.std.proofs.lemmas.List.{length-map, length-take-le, get_or_default, take_all, take_more, take-take}
 use Rattle.std.proofs.lemmas.List.Elements.{All-contains, Contains-get_or}
-use Rattle.file_rows.specs.Path.{IsIn}
+use Rattle.std.proofs.lemmas.Slice.Eq.{bytes_eq-Decides}
+use Rattle.file_rows.specs.Content.{file_at}
+use Rattle.file_rows.specs.Path.{IsIn, same_path}
+use Rattle.file_rows.specs.declared.row.FileRow.{FileRow}
+use Rattle.file_rows.proofs.ChangeLemmas.{same_path-other}
+use Rattle.uicc_tree.proofs.FindLemmas.{find_only, find_none}
 use Rattle.uicc_tree.specs.Arena.{cell_of, files_of, children_of, children_at, IsArena, IsTree}
-use Rattle.uicc_tree.specs.Files.{Files, IsLive, path_of}
+use Rattle.uicc_tree.specs.Files.{Files, IsLive, IsNodeOf, file_of, path_of, rows_of}
 use Rattle.uicc_tree.specs.declared.arena.Arena.{Arena}
 
 -- a node of a file is a place
@@ -74,3 +79,18 @@ none_below tree children is path i at within here none node live e =
     let long : length (path_of tree node) ≡ (i + 1) + (length path - (i + 1)) = ap length e ∙ omega arith in
     let up = above_known tree children is (length path - (i + 1)) (i + 1) node live long in
     none up.0 up.1 (up.2 ∙ ap (take (i + 1)) e ∙ take_more path i 0 within ∙ ap (λ p. p ++ get_or path i 0 ∷ []) (sym here))
+
+-- a file of the path is the one that is looked for
+pub node_of_path : (tree : Files) (children : List (List ℕ)) → IsTree tree children → (path : List ℕ) (node : ℕ) → IsLive tree node
+    → path_of tree node ≡ path → IsNodeOf tree path node
+node_of_path tree children is path node live at =
+    let test : FileRow → Bool = λ row. same_path row.head.path path in
+    record {
+      live = live;
+      file = find_only (file_of tree) test tree.nodes node live ((bytes_eq-Decides (path_of tree node) path).1 at)
+          (λ other there same. ap (file_of tree) (is.distinct other node there live ((bytes_eq-Decides (path_of tree other) path).0 same ∙ sym at)));
+    }
+
+-- where no node has the path there is no file of it
+pub no_file_at : (tree : Files) (path : List ℕ) → ((node : ℕ) → IsLive tree node → path_of tree node ≡ path → ⊥) → file_at path (rows_of tree) ≡ None
+no_file_at tree path none = find_none (file_of tree) (λ row. same_path row.head.path path) tree.nodes (λ node live. same_path-other (path_of tree node) path (none node live))

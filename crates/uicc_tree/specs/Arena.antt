@@ -1,4 +1,4 @@
-use Rattle.std.specs.Prelude.{ℕ, ◌≡◌, ◌<◌, List, ◌∷◌, [], ◌++◌, map, length, All, Contains, slice_index_or, slice_get, Option, Some}
+use Rattle.std.specs.Prelude.{ℕ, ◌≡◌, ◌<◌, List, ◌∷◌, [], ◌++◌, map, length, All, Contains, slice_index_or, slice_get, Some}
 use Rattle.file_rows.specs.Path.{IsIn, master}
 use Rattle.file_rows.specs.declared.row.FileRow.{FileRow}
 use Rattle.uicc_tree.specs.Files.{Files, IsLive, path_of}
@@ -26,12 +26,12 @@ pub record IsTree (tree : Files) (children : List (List ℕ)) : Type 0 where
   pub root : (node : ℕ) → slice_get tree.nodes 0 ≡ Some node → path_of tree node ≡ master
   -- each file stands in another one
   pub closed : (node : ℕ) (directory : List ℕ) (id : ℕ) → IsLive tree node → path_of tree node ≡ directory ++ id ∷ []
-    → (above : ℕ) × IsLive tree above × (path_of tree above ≡ directory)
+      → (above : ℕ) × IsLive tree above × (path_of tree above ≡ directory)
   pub distinct : (one other : ℕ) → IsLive tree one → IsLive tree other → path_of tree one ≡ path_of tree other → one ≡ other
   pub child_is : (node child : ℕ) → IsLive tree node → Contains (children_at children node) child
-    → IsLive tree child × IsIn (path_of tree node) (path_of tree child)
+      → IsLive tree child × IsIn (path_of tree node) (path_of tree child)
   pub child_known : (node child : ℕ) → IsLive tree node → IsLive tree child → IsIn (path_of tree node) (path_of tree child)
-    → Contains (children_at children node) child
+      → Contains (children_at children node) child
 
 abbrev pub IsArena : Arena → Type 0
 IsArena arena = IsTree (files_of arena) (children_of arena)

@@ -1,6 +1,10 @@
-use Rattle.std.specs.Prelude.{ℕ, ◌≡◌, List, [], map, Option, None, Contains, slice_index_or}
+use Rattle.std.specs.Prelude.{ℕ, Bool, true, false, ◌≡◌, ◌≢◌, ◌&&◌, List, [], map, find, nat_eq, Option, Some, None, Contains, slice_index_or}
+use Rattle.std.specs.List.{starts_with}
+use Rattle.file_rows.specs.Content.{file_at}
+use Rattle.file_rows.specs.Path.{IsIn}
+use Rattle.file_rows.specs.declared.head.Kind.{Kind}
 use Rattle.file_rows.specs.declared.head.FileHead.{FileHead}
-use Rattle.file_rows.specs.declared.head.Kind.TheVariants.{Transparent}
+use Rattle.file_rows.specs.declared.head.Kind.TheVariants.{Master, Directory, Application, Transparent, Linear, Cyclic}
 use Rattle.file_rows.specs.declared.head.Life.TheVariants.{Terminated}
 use Rattle.file_rows.specs.declared.row.FileRow.{FileRow}
 
@@ -12,7 +16,7 @@ pub record Files : Type 0 where
 -- what stands for the file of a node that isn't there
 abbrev pub no_head : FileHead
 no_head =
-  record { path = []; kind = Transparent; life = Terminated; sfi = 0; name = []; rule = None; record_len = 0; size = 0 }
+    record { path = []; kind = Transparent; life = Terminated; sfi = 0; name = []; rule = None; record_len = 0; size = 0 }
 
 abbrev pub no_file : FileRow
 no_file = record { head = no_head; body = [] }
@@ -31,3 +35,27 @@ path_of tree node = (file_of tree node).head.path
 -- the files, in the order in which they were made
 abbrev pub rows_of : Files → List FileRow
 rows_of tree = map (file_of tree) tree.nodes
+
+-- the node is the one of the file of this path
+pub record IsNodeOf (tree : Files) (path : List ℕ) (node : ℕ) : Type 0 where
+  pub live : IsLive tree node
+  pub file : file_at path (rows_of tree) ≡ Some (file_of tree node)
+
+-- the node is that of a file in the directory with this short file identifier
+pub record HasSfi (tree : Files) (directory : List ℕ) (sfi node : ℕ) : Type 0 where
+  pub live : IsLive tree node
+  pub inside : IsIn directory (path_of tree node)
+  pub given : sfi ≢ 0
+  pub is : (file_of tree node).head.sfi ≡ sfi
+
+abbrev pub is_application : Kind → Bool
+is_application Master = false
+is_application Directory = false
+is_application Application = true
+is_application Transparent = false
+is_application Linear = false
+is_application Cyclic = false
+
+-- the first application, in the order in which they were made, whose name begins so
+abbrev pub application_named : List ℕ → List FileRow → Option FileRow
+application_named front rows = find (λ row. is_application row.head.kind && starts_with nat_eq row.head.name front) rows

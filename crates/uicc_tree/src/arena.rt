@@ -1,8 +1,11 @@
-ghost use Rattle.std.specs.Prelude.{◌≡◌, ◌≢◌, ℕ, ◌<◌, List, [], ◌∷◌, ◌++◌, length, Contains, IfSome, IfNone, IsTrue, ◌↔◌};
+ghost use Rattle.std.specs.Prelude.{◌≡◌, ◌≢◌, ℕ, ◌<◌, List, [], ◌∷◌, ◌++◌, length, Contains, IfSome, IfNone, IsTrue, ◌↔◌, ◌&&◌, nat_eq, Some, None};
 ghost use Rattle.uicc_tree.specs.Arena.{files_of, children_of, children_at, IsArena};
-ghost use Rattle.uicc_tree.specs.Files.{Files, IsLive, file_of, path_of};
+ghost use Rattle.std.specs.List.{starts_with};
+ghost use Rattle.file_rows.specs.Content.{file_at};
+ghost use Rattle.file_rows.specs.Path.{IsIn, master};
+ghost use Rattle.uicc_tree.specs.Files.{IsLive, IsNodeOf, HasSfi, file_of, path_of, rows_of, is_application, application_named};
 
-use file_rows::FileHead;
+use file_rows::{FileHead, Kind};
 use smallvec::SmallVec;
 
 // A node: a file, and the nodes of the files directly in it.
@@ -30,6 +33,13 @@ fn ends_with(path: &[u16], id: u16) -> bool
     }
 }
 
+// Whether this is an application whose name begins so.
+fn is_named(head: &FileHead, front: &[u8]) -> bool
+    ensures { result ≡ is_application head.now.kind && starts_with nat_eq head.now.name front.now }
+{
+    head.kind == Kind::Application && head.name.as_slice().starts_with(front)
+}
+
 impl Arena {
     pub fn head(&self, node: u32) -> &FileHead
         requires { node < length self.now.slots.items }
@@ -53,13 +63,15 @@ impl Arena {
     }
 
     // The node of the file of this identifier in a file.
-    fn child_with(&self, node: u32, id: u16) -> Option<u32>
+    pub fn child_with(&self, node: u32, id: u16) -> Option<u32>
         requires arena { IsArena self.now }
         requires live { IsLive (files_of self.now) node }
         ensures found { IfSome result (λ child. IsLive (files_of self.now) child
             × (path_of (files_of self.now) child ≡ path_of (files_of self.now) node ++ id ∷ [])) }
         ensures none { IfNone result ((child : ℕ) → IsLive (files_of self.now) child
             → path_of (files_of self.now) child ≢ path_of (files_of self.now) node ++ id ∷ []) }
+        ensures node { IfSome result (IsNodeOf (files_of self.now) (path_of (files_of self.now) node ++ id ∷ [])) }
+        ensures no_file { IfNone result (file_at (path_of (files_of self.now) node ++ id ∷ []) (rows_of (files_of self.now)) ≡ None) }
     {
         for child in self.children(node) {
             if ends_with(self.head(*child).path.as_slice(), id) {
@@ -74,11 +86,58 @@ impl Arena {
         requires arena { IsArena self.now }
         ensures found { IfSome result (λ node. IsLive (files_of self.now) node × (path_of (files_of self.now) node ≡ path.now)) }
         ensures none { IfNone result ((node : ℕ) → IsLive (files_of self.now) node → path_of (files_of self.now) node ≢ path.now) }
+        ensures node { IfSome result (IsNodeOf (files_of self.now) path.now) }
+        ensures no_file { IfNone result (file_at path.now (rows_of (files_of self.now)) ≡ None) }
     {
         let mut node = *self.order.first()?;
         for id in path {
             node = self.child_with(node, *id)?;
         }
         Some(node)
+    }
+
+    // The node of the file of this SFI in a file.
+    pub fn child_with_sfi(&self, node: u32, sfi: u8) -> Option<u32>
+        requires arena { IsArena self.now }
+        requires live { IsLive (files_of self.now) node }
+        ensures found { IfSome result (HasSfi (files_of self.now) (path_of (files_of self.now) node) sfi) }
+        ensures none { IfNone result ((file : ℕ) → ¬ HasSfi (files_of self.now) (path_of (files_of self.now) node) sfi file) }
+    {
+        if sfi == 0 {
+            return None;
+        }
+        for child in self.children(node) {
+            if self.head(*child).sfi == sfi {
+                return Some(*child);
+            }
+        }
+        None
+    }
+
+    // The node of the first application whose name begins so.
+    pub fn application_named(&self, front: &[u8]) -> Option<u32>
+        requires { IsArena self.now }
+        ensures found { IfSome result (λ node. IsLive (files_of self.now) node
+            × (application_named front.now (rows_of (files_of self.now)) ≡ Some (file_of (files_of self.now) node))) }
+        ensures none { IfNone result (application_named front.now (rows_of (files_of self.now)) ≡ None) }
+    {
+        for node in self.order.as_slice() {
+            if is_named(self.head(*node), front) {
+                return Some(*node);
+            }
+        }
+        None
+    }
+
+    // The node of the file in which this one stands.
+    pub fn parent(&self, node: u32) -> Option<u32>
+        requires arena { IsArena self.now }
+        requires live { IsLive (files_of self.now) node }
+        ensures found { IfSome result (λ above. IsLive (files_of self.now) above
+            × IsIn (path_of (files_of self.now) above) (path_of (files_of self.now) node)) }
+        ensures none { IfNone result (path_of (files_of self.now) node ≡ master) }
+    {
+        let (_, directory) = self.head(node).path.as_slice().split_last()?;
+        self.find(directory)
     }
 }

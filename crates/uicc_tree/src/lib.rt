@@ -3,3 +3,6 @@
 #![tactic(auto)]
 
 mod arena;
+mod tree;
+
+pub use tree::Tree;
