@@ -14,7 +14,7 @@ use Rattle.uicc_tree.specs.declared.arena.Arena.{Arena}
 -- a node of a file is a place
 pub in_slots : (arena : Arena) → IsArena arena → (node : ℕ) → IsLive (files_of arena) node → node < length arena.slots.items
 in_slots arena tree node live =
-    let within : node < length (map cell_of arena.slots.items) = All-contains (λ n. n < length (map cell_of arena.slots.items)) arena.order.items node tree.in_range live in
+    let within : node < length (map cell_of arena.slots.items) = All-contains (λ n. n < length (map cell_of arena.slots.items)) arena.order.items node tree.tree.in_range live in
     omega (arith, within, length-map arena.slots.items cell_of)
 
 -- a listed child is a file in that of the node
@@ -22,7 +22,7 @@ pub child_at : (arena : Arena) → IsArena arena → (node : ℕ) → IsLive (fi
     → (k : ℕ) → k < length items → IsLive (files_of arena) (get_or items k 0) × IsIn (path_of (files_of arena) node) (path_of (files_of arena) (get_or items k 0))
 child_at arena tree node live items is k within =
     let listed : Contains (children_at (children_of arena) node) (get_or items k 0) = rw (← is) (Contains-get_or items k 0 within) in
-    tree.child_is node (get_or items k 0) live listed
+    tree.tree.child_is node (get_or items k 0) live listed
 
 -- lists with an element behind are equal where both parts are
 pub snoc_same : (p q : List ℕ) (x y : ℕ) → p ++ x ∷ [] ≡ q ++ y ∷ [] → (p ≡ q) × (x ≡ y)
@@ -49,7 +49,7 @@ pub child_place : (arena : Arena) → IsArena arena → (node : ℕ) → IsLive 
     → (child : ℕ) → IsLive (files_of arena) child → IsIn (path_of (files_of arena) node) (path_of (files_of arena) child)
     → (k : ℕ) × (k < length items) × (get_or items k 0 ≡ child)
 child_place arena tree node live items is child there inside =
-    let listed : Contains items child = rw is (tree.child_known node child live there inside) in
+    let listed : Contains items child = rw is (tree.tree.child_known node child live there inside) in
     (listed.0, listed.1, get_or_default items listed.0 0 child listed.1 ∙ listed.2)
 
 -- a list is its front and its last element

@@ -1,7 +1,7 @@
-use Rattle.std.specs.Prelude.{ℕ, ◌≡◌, ◌<◌, List, ◌∷◌, [], ◌++◌, map, length, All, Contains, slice_index_or, slice_get, Some}
+use Rattle.std.specs.Prelude.{ℕ, Bool, true, false, ◌≡◌, ◌≢◌, ◌⊎◌, ◌<◌, ◌^◌, List, ◌∷◌, [], ◌++◌, map, length, All, Contains, slice_index_or, slice_get, Option, Some, None}
 use Rattle.file_rows.specs.Path.{IsIn, master}
 use Rattle.file_rows.specs.declared.row.FileRow.{FileRow}
-use Rattle.uicc_tree.specs.Files.{Files, IsLive, path_of}
+use Rattle.uicc_tree.specs.Files.{Files, IsLive, file_of, path_of}
 use Rattle.uicc_tree.specs.declared.arena.Arena.{Arena}
 use Rattle.uicc_tree.specs.declared.arena.Slot.{Slot}
 
@@ -33,5 +33,32 @@ pub record IsTree (tree : Files) (children : List (List ℕ)) : Type 0 where
   pub child_known : (node child : ℕ) → IsLive tree node → IsLive tree child → IsIn (path_of tree node) (path_of tree child)
       → Contains (children_at children node) child
 
-abbrev pub IsArena : Arena → Type 0
-IsArena arena = IsTree (files_of arena) (children_of arena)
+-- whether each node is that of a file
+abbrev pub marks_of : Arena → List Bool
+marks_of arena = map (λ slot. slot.live) arena.slots.items
+
+abbrev pub mark_at : List Bool → ℕ → Bool
+mark_at marks node = slice_index_or marks node false
+
+pub record IsArena (arena : Arena) : Type 0 where
+  pub tree : IsTree (files_of arena) (children_of arena)
+  pub marked : (node : ℕ) → IsLive (files_of arena) node → mark_at (marks_of arena) node ≡ true
+  pub few : length arena.slots.items < 2 ^ 32
+
+-- the file is new, and stands in a file of the tree, or alone as its MF
+pub record CanStand (tree : Files) (path : List ℕ) (directory : Option ℕ) : Type 0 where
+  pub new : (node : ℕ) → IsLive tree node → path_of tree node ≢ path
+  pub place : ((directory ≡ None) × (tree.nodes ≡ []) × (path ≡ master))
+    ⊎ ((above : ℕ) × (directory ≡ Some above) × IsLive tree above × IsIn (path_of tree above) path)
+
+-- the new tree has one more node, which is a child of the directory, and all else as the old one
+pub record AddsNode (old new : Files) (were are : List (List ℕ)) (node : ℕ) (row : FileRow) (directory : Option ℕ) : Type 0 where
+  pub nodes : new.nodes ≡ old.nodes ++ node ∷ []
+  pub in_range : (other : ℕ) → IsLive new other → other < length new.cells
+  pub fresh : ¬ IsLive old node
+  pub file : file_of new node ≡ row
+  pub files : (other : ℕ) → IsLive old other → file_of new other ≡ file_of old other
+  pub alone : children_at are node ≡ []
+  pub named : (above : ℕ) → IsLive old above → directory ≡ Some above
+    → children_at are above ≡ children_at were above ++ node ∷ []
+  pub others : (other : ℕ) → IsLive old other → directory ≢ Some other → children_at are other ≡ children_at were other

@@ -7,6 +7,7 @@ ghost use Rattle.uicc_tree.specs.Files.{IsLive, IsNodeOf, HasSfi, file_of, path_
 
 use file_rows::{FileHead, Kind};
 use smallvec::SmallVec;
+use std::alloc::Global;
 
 // A node: a file, and the nodes of the files directly in it.
 #[derive(Debug, Drop)]
@@ -14,6 +15,8 @@ struct Slot {
     head: FileHead,
     body: Vec<u8>,
     children: SmallVec<u32, 8>,
+    // Whether the node is that of a file.
+    live: bool,
 }
 
 // Nodes, named by their places in `slots`, and those of them that are files, in the order in which they were made.
@@ -41,6 +44,17 @@ fn is_named(head: &FileHead, front: &[u8]) -> bool
 }
 
 impl Arena {
+    // No files.
+    pub fn new(alloc: Global) -> Arena
+        ensures arena { IsArena result }
+        ensures nodes { (files_of result).nodes ≡ [] }
+    {
+        Arena {
+            slots: Vec::new(alloc),
+            order: Vec::new(alloc),
+        }
+    }
+
     pub fn head(&self, node: u32) -> &FileHead
         requires { node < length self.now.slots.items }
         ensures { result.now ≡ (file_of (files_of self.now) node).head }

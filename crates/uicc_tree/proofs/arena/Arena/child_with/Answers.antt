@@ -17,7 +17,7 @@ returns-then-ends_with-clause-found c =
 pub returns-then-ends_with-clause-node : goal.returns-then-ends_with-clause-node
 returns-then-ends_with-clause-node c =
     let found = returns-then-ends_with-clause-found c in
-    node_of_path (files_of c.args.self.now) (children_of c.args.self.now) c.requires.arena _ _ found.0 found.1
+    node_of_path (files_of c.args.self.now) (children_of c.args.self.now) c.requires.arena.tree _ _ found.0 found.1
 
 pub returns-clause-none : goal.returns-clause-none
 returns-clause-none c child live path =

@@ -9,7 +9,7 @@ none : (c : goal.After-from_residual-in_err-node-2) → (node : ℕ) → IsLive 
     → path_of (files_of c.args.self.now) node ≡ c.args.path.now → ⊥
 none c =
     let arena = c.args.self.now in
-    none_below (files_of arena) (children_of arena) c.requires.arena c.args.path.now c.loop-id.id-index c.loop-id.node
+    none_below (files_of arena) (children_of arena) c.requires.arena.tree c.args.path.now c.loop-id.id-index c.loop-id.node
     c.loop-id-test.true c.loop-id.invariant.1 c.in_err-node-2.ensures.none
 
 pub returns-in_err-node-2-clause-none : goal.returns-in_err-node-2-clause-none
@@ -22,4 +22,4 @@ pub returns-clause-node : goal.returns-clause-node
 returns-clause-node c =
     let arena = c.args.self.now in
     let whole : take c.loop-id.id-index c.args.path.now ≡ c.args.path.now = take_all c.loop-id.id-index c.args.path.now c.loop-id-test.false in
-    node_of_path (files_of arena) (children_of arena) c.requires.arena c.args.path.now c.loop-id.node c.loop-id.invariant.0 (c.loop-id.invariant.1 ∙ whole)
+    node_of_path (files_of arena) (children_of arena) c.requires.arena.tree c.args.path.now c.loop-id.node c.loop-id.invariant.0 (c.loop-id.invariant.1 ∙ whole)
