@@ -1,4 +1,4 @@
-use Rattle.std.proofs.Common.{◌≡◌, ◌≢◌, ◌⊎◌, ℕ, zero, suc, ◌<◌, List, ◌∷◌, [], ◌++◌, length, All, Contains, get_or, refl, sym, ◌∙◌, ap, subst, inl, inr, Option, Some, None, arith, ⊎_elim}
+use Rattle.std.proofs.Common.{◌≡◌, ◌≢◌, ◌⊎◌, ℕ, List, ◌∷◌, [], ◌++◌, length, Contains, refl, sym, ◌∙◌, ap, subst, inl, inr, Option, Some, None, arith, ⊎_elim}
 use Rattle.std.proofs.lemmas.Bool.{cases_eq}
 use Rattle.std.proofs.lemmas.List.{length-append}
 use Rattle.std.proofs.lemmas.List.Elements.{Contains-append_left, Contains-get_or, Contains-push, Contains-push_cases}
@@ -7,7 +7,7 @@ use Rattle.std.specs.Prelude.{slice_get}
 use Rattle.file_rows.specs.Path.{IsIn, master}
 use Rattle.file_rows.specs.declared.row.FileRow.{FileRow}
 use Rattle.uicc_tree.specs.Arena.{AddsNode, CanStand, IsTree, children_at}
-use Rattle.uicc_tree.specs.Files.{Files, IsLive, file_of, path_of}
+use Rattle.uicc_tree.specs.Files.{Files, IsLive, path_of}
 use Rattle.uicc_tree.proofs.FindLemmas.{contains_first}
 use Rattle.uicc_tree.proofs.TreeLemmas.{snoc_same}
 

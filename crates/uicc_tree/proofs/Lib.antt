@@ -1,3 +1,5 @@
 pub mod AddLemmas
 pub mod FindLemmas
+pub mod PlaceLemmas
+pub mod SlotLemmas
 pub mod TreeLemmas

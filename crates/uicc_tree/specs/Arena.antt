@@ -1,4 +1,4 @@
-use Rattle.std.specs.Prelude.{ℕ, Bool, true, false, ◌≡◌, ◌≢◌, ◌⊎◌, ◌<◌, ◌^◌, List, ◌∷◌, [], ◌++◌, map, length, All, Contains, slice_index_or, slice_get, Option, Some, None}
+use Rattle.std.specs.Prelude.{ℕ, Bool, true, false, nat_lt, ◌+◌, ◌≡◌, ◌≢◌, ◌⊎◌, ◌<◌, ◌^◌, List, ◌∷◌, [], ◌++◌, map, length, vec_capacity, IsTrue, All, Contains, slice_index_or, slice_get, Option, Some, None}
 use Rattle.file_rows.specs.Path.{IsIn, master}
 use Rattle.file_rows.specs.declared.row.FileRow.{FileRow}
 use Rattle.uicc_tree.specs.Files.{Files, IsLive, file_of, path_of}
@@ -62,3 +62,30 @@ pub record AddsNode (old new : Files) (were are : List (List ℕ)) (node : ℕ) 
   pub named : (above : ℕ) → IsLive old above → directory ≡ Some above
     → children_at are above ≡ children_at were above ++ node ∷ []
   pub others : (other : ℕ) → IsLive old other → directory ≢ Some other → children_at are other ≡ children_at were other
+
+-- the node is that of no file
+abbrev pub IsVacant : Arena → ℕ → Type 0
+IsVacant arena node = (node < length arena.slots.items) × (mark_at (marks_of arena) node ≡ false)
+
+-- there is a node for one more file
+abbrev pub HasNode : Arena → Type 0
+HasNode arena = ((node : ℕ) × IsVacant arena node)
+  ⊎ ((length arena.slots.items < vec_capacity arena.slots) × (length arena.slots.items + 1 < 2 ^ 32))
+
+-- memory for one more child of each node
+abbrev pub child_room_of : Arena → List Bool
+child_room_of arena = map (λ slot. nat_lt (length slot.children.items) slot.children.capacity) arena.slots.items
+
+-- there is a node, and memory to name it, for one more file in the directory
+pub record HasPlace (arena : Arena) (directory : Option ℕ) : Type 0 where
+  pub node : HasNode arena
+  pub order : length arena.order.items < vec_capacity arena.order
+  pub child : (above : ℕ) → directory ≡ Some above → IsTrue (slice_index_or (child_room_of arena) above false)
+
+-- the new arena has one more node, which is in no list of children, and all else as the old one
+pub record Stores (old new : Arena) (slot : Slot) (node : ℕ) : Type 0 where
+  pub nodes : new.order.items ≡ old.order.items ++ node ∷ []
+  pub fresh : ¬ IsLive (files_of old) node
+  pub stored : slice_get new.slots.items node ≡ Some slot
+  pub others : (other : ℕ) → other ≢ node → slice_get new.slots.items other ≡ slice_get old.slots.items other
+  pub few : length new.slots.items < 2 ^ 32
