@@ -33,7 +33,6 @@ some_or_not (Some m) n = ⊎_elim (λ e. inl (ap (λ k. Some k) e)) (λ ne. inr 
 
 module _ (old new : Files) (were are : List (List ℕ)) (node : ℕ) (row : FileRow) (directory : Option ℕ)
     (is : IsTree old were) (stands : CanStand old row.head.path directory) (adds : AddsNode old new were are node row directory) where
-
   -- a node of the new tree is one of the old or the added one
   live_cases : (n : ℕ) → IsLive new n → IsLive old n ⊎ (node ≡ n)
   live_cases n live =
@@ -68,13 +67,13 @@ module _ (old new : Files) (were are : List (List ℕ)) (node : ℕ) (row : File
   distinct : (one other : ℕ) → IsLive new one → IsLive new other → path_of new one ≡ path_of new other → one ≡ other
   distinct one other live there e = ⊎_elim
       (λ was. ⊎_elim
-          (λ too. is.distinct one other was too (sym (path_stays one was) ∙ e ∙ path_stays other too))
-          (λ same. absurd (stands.new one was (sym (path_stays one was) ∙ e ∙ ap (path_of new) (sym same) ∙ path_added)))
-          (live_cases other there))
+      (λ too. is.distinct one other was too (sym (path_stays one was) ∙ e ∙ path_stays other too))
+      (λ same. absurd (stands.new one was (sym (path_stays one was) ∙ e ∙ ap (path_of new) (sym same) ∙ path_added)))
+      (live_cases other there))
       (λ same. ⊎_elim
-          (λ too. absurd (stands.new other too (sym (path_stays other too) ∙ sym e ∙ ap (path_of new) (sym same) ∙ path_added)))
-          (λ again. sym same ∙ again)
-          (live_cases other there))
+      (λ too. absurd (stands.new other too (sym (path_stays other too) ∙ sym e ∙ ap (path_of new) (sym same) ∙ path_added)))
+      (λ again. sym same ∙ again)
+      (live_cases other there))
       (live_cases one live)
 
   inside_stays : (n child : ℕ) → IsLive old n → IsLive old child → IsIn (path_of old n) (path_of old child) → IsIn (path_of new n) (path_of new child)
@@ -90,8 +89,8 @@ module _ (old new : Files) (were are : List (List ℕ)) (node : ℕ) (row : File
   inside_added n live e = ⊎_elim
       (λ alone. absurd (none-some n (sym alone.0 ∙ e)))
       (λ holds.
-          let same : path_of new n ≡ path_of old holds.0 = path_stays n live ∙ ap (path_of old) (sym (same_Some holds.0 n (sym holds.1 ∙ e))) in
-          (holds.3.0, path_added ∙ holds.3.1 ∙ ap (λ (p : List ℕ). p ++ holds.3.0 ∷ []) (sym same)))
+      let same : path_of new n ≡ path_of old holds.0 = path_stays n live ∙ ap (path_of old) (sym (same_Some holds.0 n (sym holds.1 ∙ e))) in
+      (holds.3.0, path_added ∙ holds.3.1 ∙ ap (λ (p : List ℕ). p ++ holds.3.0 ∷ []) (sym same)))
       stands.place
 
   child_was : (n child : ℕ) → IsLive old n → Contains (children_at were n) child → IsLive new child × IsIn (path_of new n) (path_of new child)
@@ -103,12 +102,12 @@ module _ (old new : Files) (were are : List (List ℕ)) (node : ℕ) (row : File
       → IsLive new child × IsIn (path_of new n) (path_of new child)
   child_is n child live there = ⊎_elim
       (λ was. ⊎_elim
-          (λ named. ⊎_elim
-              (λ listed. child_was n child was listed)
-              (λ same. (subst (λ (c : ℕ). IsLive new c) same live_added, subst (λ (c : ℕ). IsIn (path_of new n) (path_of new c)) same (inside_added n was named)))
-              (Contains-push_cases (children_at were n) node child (subst (λ (ns : List ℕ). Contains ns child) (adds.named n was named) there)))
-          (λ apart. child_was n child was (subst (λ (ns : List ℕ). Contains ns child) (adds.others n was apart) there))
-          (some_or_not directory n))
+      (λ named. ⊎_elim
+      (λ listed. child_was n child was listed)
+      (λ same. (subst (λ (c : ℕ). IsLive new c) same live_added, subst (λ (c : ℕ). IsIn (path_of new n) (path_of new c)) same (inside_added n was named)))
+      (Contains-push_cases (children_at were n) node child (subst (λ (ns : List ℕ). Contains ns child) (adds.named n was named) there)))
+      (λ apart. child_was n child was (subst (λ (ns : List ℕ). Contains ns child) (adds.others n was apart) there))
+      (some_or_not directory n))
       (λ same. absurd (nothing (subst (λ (ns : List ℕ). Contains ns child) (ap (children_at are) (sym same) ∙ adds.alone) there)))
       (live_cases n live)
 
@@ -129,18 +128,18 @@ module _ (old new : Files) (were are : List (List ℕ)) (node : ℕ) (row : File
       → Contains (children_at are n) child
   child_known n child live there inside = ⊎_elim
       (λ was. ⊎_elim
-          (λ too. listed_stays n child was (is.child_known n child was too (inside_was n child was too inside)))
-          (λ same. subst (λ (c : ℕ). Contains (children_at are n) c) same
-              (added_listed n was (subst (λ (c : ℕ). IsIn (path_of new n) (path_of new c)) (sym same) inside)))
-          (live_cases child there))
+      (λ too. listed_stays n child was (is.child_known n child was too (inside_was n child was too inside)))
+      (λ same. subst (λ (c : ℕ). Contains (children_at are n) c) same
+      (added_listed n was (subst (λ (c : ℕ). IsIn (path_of new n) (path_of new c)) (sym same) inside)))
+      (live_cases child there))
       (λ same. ⊎_elim
-          (λ too.
-              let e : path_of old child ≡ row.head.path ++ inside.0 ∷ [] =
-                  sym (path_stays child too) ∙ inside.1 ∙ ap (λ (p : List ℕ). p ++ inside.0 ∷ []) (ap (path_of new) (sym same) ∙ path_added) in
-              let up = is.closed child row.head.path inside.0 too e in
-              absurd (stands.new up.0 up.1 up.2))
-          (λ again. absurd (not_in_itself (path_of new n) (subst (λ (c : ℕ). IsIn (path_of new n) (path_of new c)) (sym again ∙ same) inside)))
-          (live_cases child there))
+      (λ too.
+      let e : path_of old child ≡ row.head.path ++ inside.0 ∷ [] =
+      sym (path_stays child too) ∙ inside.1 ∙ ap (λ (p : List ℕ). p ++ inside.0 ∷ []) (ap (path_of new) (sym same) ∙ path_added) in
+      let up = is.closed child row.head.path inside.0 too e in
+      absurd (stands.new up.0 up.1 up.2))
+      (λ again. absurd (not_in_itself (path_of new n) (subst (λ (c : ℕ). IsIn (path_of new n) (path_of new c)) (sym again ∙ same) inside)))
+      (live_cases child there))
       (live_cases n live)
 
   first_is : (ns : List ℕ) → old.nodes ≡ ns → (n : ℕ) → slice_get (ns ++ node ∷ []) 0 ≡ Some n → path_of new n ≡ master

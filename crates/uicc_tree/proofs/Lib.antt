@@ -1,5 +1,6 @@
 pub mod AddLemmas
 pub mod FindLemmas
+pub mod MakeLemmas
 pub mod PlaceLemmas
 pub mod SlotLemmas
 pub mod TreeLemmas

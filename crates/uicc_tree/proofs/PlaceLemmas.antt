@@ -79,18 +79,18 @@ module _ (old new : Arena) (slot : Slot) (node : ℕ) (arena : IsArena old) (sto
       let within : above < length (children_of new) = let w = within_new above live in omega (arith, w, length-map new.slots.items (λ (s : Slot). s.children.items)) in
       adds_node (Some above) are
       (ap (λ (cs : List (List ℕ)). children_at cs node) e
-          ∙ get_or-set_other (children_of new) above node (children_at (children_of new) above ++ node ∷ []) [] (λ same. apart above live (sym same))
-          ∙ map_get_some (λ s. s.children.items) [] new.slots.items node slot stores.stored ∙ empty)
+      ∙ get_or-set_other (children_of new) above node (children_at (children_of new) above ++ node ∷ []) [] (λ same. apart above live (sym same))
+      ∙ map_get_some (λ s. s.children.items) [] new.slots.items node slot stores.stored ∙ empty)
       (λ n there same.
-          let is : above ≡ n = same_Some above n same in
-          ap (λ (cs : List (List ℕ)). children_at cs n) e
-          ∙ ap (children_at (named_children above)) (sym is)
-          ∙ get_or-set_same (children_of new) above (children_at (children_of new) above ++ node ∷ []) [] within
-          ∙ ap (λ (cs : List ℕ). cs ++ node ∷ []) (children_stay above live ∙ ap (children_at (children_of old)) is))
+      let is : above ≡ n = same_Some above n same in
+      ap (λ (cs : List (List ℕ)). children_at cs n) e
+      ∙ ap (children_at (named_children above)) (sym is)
+      ∙ get_or-set_same (children_of new) above (children_at (children_of new) above ++ node ∷ []) [] within
+      ∙ ap (λ (cs : List ℕ). cs ++ node ∷ []) (children_stay above live ∙ ap (children_at (children_of old)) is))
       (λ n there differ.
-          ap (λ (cs : List (List ℕ)). children_at cs n) e
-          ∙ get_or-set_other (children_of new) above n (children_at (children_of new) above ++ node ∷ []) [] (λ same. differ (ap (λ (k : ℕ). Some k) (sym same)))
-          ∙ children_stay n there)
+      ap (λ (cs : List (List ℕ)). children_at cs n) e
+      ∙ get_or-set_other (children_of new) above n (children_at (children_of new) above ++ node ∷ []) [] (λ same. differ (ap (λ (k : ℕ). Some k) (sym same)))
+      ∙ children_stay n there)
 
 -- the directory of a file that can stand there is one of the tree
 pub directory_live : (tree : Files) (path : List ℕ) (directory : Option ℕ) → CanStand tree path directory → (n : ℕ) → directory ≡ Some n → IsLive tree n

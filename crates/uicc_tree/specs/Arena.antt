@@ -45,11 +45,20 @@ pub record IsArena (arena : Arena) : Type 0 where
   pub marked : (node : ℕ) → IsLive (files_of arena) node → mark_at (marks_of arena) node ≡ true
   pub few : length arena.slots.items < 2 ^ 32
 
--- the file is new, and stands in a file of the tree, or alone as its MF
+-- a file of this path stands in one of the tree, or alone as its MF
+abbrev pub HasDirectory : Files → List ℕ → Type 0
+HasDirectory tree path =
+    ((tree.nodes ≡ []) × (path ≡ master)) ⊎ ((above : ℕ) × IsLive tree above × IsIn (path_of tree above) path)
+
+-- this is the node of the file in which it stands, and none for the MF
+abbrev pub StandsIn : Files → List ℕ → Option ℕ → Type 0
+StandsIn tree path directory = ((directory ≡ None) × (tree.nodes ≡ []) × (path ≡ master))
+    ⊎ ((above : ℕ) × (directory ≡ Some above) × IsLive tree above × IsIn (path_of tree above) path)
+
+-- a file of this path is new, and stands there
 pub record CanStand (tree : Files) (path : List ℕ) (directory : Option ℕ) : Type 0 where
   pub new : (node : ℕ) → IsLive tree node → path_of tree node ≢ path
-  pub place : ((directory ≡ None) × (tree.nodes ≡ []) × (path ≡ master))
-    ⊎ ((above : ℕ) × (directory ≡ Some above) × IsLive tree above × IsIn (path_of tree above) path)
+  pub place : StandsIn tree path directory
 
 -- the new tree has one more node, which is a child of the directory, and all else as the old one
 pub record AddsNode (old new : Files) (were are : List (List ℕ)) (node : ℕ) (row : FileRow) (directory : Option ℕ) : Type 0 where
@@ -60,7 +69,7 @@ pub record AddsNode (old new : Files) (were are : List (List ℕ)) (node : ℕ) 
   pub files : (other : ℕ) → IsLive old other → file_of new other ≡ file_of old other
   pub alone : children_at are node ≡ []
   pub named : (above : ℕ) → IsLive old above → directory ≡ Some above
-    → children_at are above ≡ children_at were above ++ node ∷ []
+      → children_at are above ≡ children_at were above ++ node ∷ []
   pub others : (other : ℕ) → IsLive old other → directory ≢ Some other → children_at are other ≡ children_at were other
 
 -- the node is that of no file
@@ -70,7 +79,7 @@ IsVacant arena node = (node < length arena.slots.items) × (mark_at (marks_of ar
 -- there is a node for one more file
 abbrev pub HasNode : Arena → Type 0
 HasNode arena = ((node : ℕ) × IsVacant arena node)
-  ⊎ ((length arena.slots.items < vec_capacity arena.slots) × (length arena.slots.items + 1 < 2 ^ 32))
+    ⊎ ((length arena.slots.items < vec_capacity arena.slots) × (length arena.slots.items + 1 < 2 ^ 32))
 
 -- memory for one more child of each node
 abbrev pub child_room_of : Arena → List Bool

@@ -1,5 +1,5 @@
 ghost use Rattle.std.specs.Prelude.{◌≡◌, ◌≢◌, ℕ, ◌<◌, List, [], ◌∷◌, ◌++◌, length, Contains, IfSome, IfNone, IsTrue, OnOk, ◌↔◌, ◌&&◌, ◌+◌, ◌^◌, ◌⊎◌, false, nat_eq, Some, None, vec_capacity, slice_get, slice_set, slice_index_or};
-ghost use Rattle.uicc_tree.specs.Arena.{files_of, children_of, children_at, child_room_of, marks_of, CanStand, HasNode, HasPlace, IsArena, IsVacant, Stores};
+ghost use Rattle.uicc_tree.specs.Arena.{files_of, children_of, children_at, child_room_of, marks_of, CanStand, HasDirectory, HasNode, HasPlace, IsArena, IsVacant, StandsIn, Stores};
 ghost use Rattle.std.specs.List.{starts_with};
 ghost use Rattle.file_rows.specs.Content.{file_at};
 ghost use Rattle.file_rows.specs.Path.{IsIn, master};
@@ -155,6 +155,16 @@ impl Arena {
         ensures none { IfNone result (path_of (files_of self.now) node ≡ master) }
     {
         let (_, directory) = self.head(node).path.as_slice().split_last()?;
+        self.find(directory)
+    }
+
+    // The node of the file in which a file of this path stands.
+    pub fn directory_of(&self, path: &[u16]) -> Option<u32>
+        requires arena { IsArena self.now }
+        requires place { HasDirectory (files_of self.now) path.now }
+        ensures { StandsIn (files_of self.now) path.now result }
+    {
+        let (_, directory) = path.split_last()?;
         self.find(directory)
     }
 

@@ -1,10 +1,11 @@
-ghost use Rattle.std.specs.Prelude.{◌≡◌, ◌≢◌, ℕ, ◌++◌, ◌∷◌, [], List, Some, None, IfSome, IfNone, IsNone};
-ghost use Rattle.file_rows.specs.Content.{file_at};
+ghost use Rattle.std.specs.Prelude.{◌≡◌, ◌≢◌, ℕ, ◌++◌, ◌∷◌, [], List, Some, None, IfOk, IfSome, IfNone, ◌⊎◌};
+ghost use Rattle.file_rows.specs.Content.{AreFiles, file_at};
 ghost use Rattle.file_rows.specs.Path.{IsIn, master};
 ghost use Rattle.uicc_tree.specs.Files.{IsLive, IsNodeOf, HasSfi, file_of, path_of, rows_of, application_named};
 
 use crate::arena::Arena;
-use file_rows::{FileHead, Kind};
+use file_rows::{FileHead, FileRow, Kind, NoMemory};
+use std::alloc::Global;
 use std::marker::Model;
 
 /// The files of a card. A file is named by its node, which stays the same while the file is there.
@@ -26,6 +27,21 @@ impl Model for Tree {
 }
 
 impl Tree {
+    /// The tree of the files of a card. It copies their bodies.
+    pub fn make(alloc: Global, rows: &[FileRow]) -> Result<Tree, NoMemory>
+        requires { AreFiles rows.now ⊎ (rows.now ≡ []) }
+        ensures { IfOk result (λ tree. rows_of tree ≡ rows.now) }
+    {
+        let mut arena = Arena::new(alloc);
+        for row in rows {
+            let directory = arena.directory_of(row.head.path.as_slice());
+            arena.reserve_place(directory)?;
+            let body = Vec::from_slice(alloc, row.body.as_slice())?;
+            arena.place(directory, row.head.copy(), body);
+        }
+        Ok(Tree { arena })
+    }
+
     /// The node of the file of this path; the MF's is empty. It looks at the children of each file on the way.
     pub fn find(&self, path: &[u16]) -> Option<u32>
         ensures found { IfSome result (IsNodeOf self.now path.now) }

@@ -17,10 +17,9 @@ hang-requires-clause-room c =
     (directory_live (files_of c.args.self.now) c.args.head.path c.args.directory c.requires.stands c.in-Some.above c.in-Some.is)
     ∙ c.requires.room.child c.in-Some.above c.in-Some.is
 
-
 adds : (c : After-hang)
     → AddsNode (files_of c.args.self.now) (files_of c.add-node.new.self) (children_of c.args.self.now) (children_of c.hang.new.self) c.add-node.result
-      (record { head = c.args.head; body = c.args.body.items }) (Some c.in-Some.above)
+    (record { head = c.args.head; body = c.args.body.items }) (Some c.in-Some.above)
 adds c =
     adds_named c.args.self.now c.add-node.new.self _ c.add-node.result c.requires.arena c.add-node.ensures c.in-Some.above
     (directory_live (files_of c.args.self.now) c.args.head.path c.args.directory c.requires.stands c.in-Some.above c.in-Some.is)
@@ -33,7 +32,7 @@ pub returns-in-Some-clause-arena : goal.returns-in-Some-clause-arena
 returns-in-Some-clause-arena c =
     same_arena c.add-node.new.self c.hang.new.self c.hang.ensures.files c.hang.ensures.marks c.hang.ensures.few c.add-node.ensures.few
     (adds_to_tree (files_of c.args.self.now) (files_of c.add-node.new.self) (children_of c.args.self.now) (children_of c.hang.new.self) c.add-node.result
-        _ (Some c.in-Some.above) c.requires.arena.tree (stands c) (adds c))
+    _ (Some c.in-Some.above) c.requires.arena.tree (stands c) (adds c))
     (marked_new c.args.self.now c.add-node.new.self _ c.add-node.result c.requires.arena c.add-node.ensures refl)
 
 pub returns-in-Some-clause-rows : goal.returns-in-Some-clause-rows
@@ -41,15 +40,16 @@ returns-in-Some-clause-rows c =
     ap rows_of c.hang.ensures.files ∙ rows_added _ _ _ _ _ _ _ (adds c)
 
 pub returns-in-Some-clause-stay : goal.returns-in-Some-clause-stay
-returns-in-Some-clause-stay c node live =
-    (subst (λ (t : Files). IsLive t node) (sym c.hang.ensures.files)
-        (live_stays (files_of c.args.self.now) (files_of c.add-node.new.self) (children_of c.args.self.now) (children_of c.hang.new.self) c.add-node.result
-            _ (Some c.in-Some.above) c.requires.arena.tree (stands c) (adds c) node live),
-     ap (λ (t : Files). file_of t node) c.hang.ensures.files ∙ (adds c).files node live)
+returns-in-Some-clause-stay c node live = (
+  subst (λ (t : Files). IsLive t node) (sym c.hang.ensures.files)
+      (live_stays (files_of c.args.self.now) (files_of c.add-node.new.self) (children_of c.args.self.now) (children_of c.hang.new.self) c.add-node.result
+      _ (Some c.in-Some.above) c.requires.arena.tree (stands c) (adds c) node live),
+  ap (λ (t : Files). file_of t node) c.hang.ensures.files ∙ (adds c).files node live,
+)
 
 adds_first : (c : In_default)
     → AddsNode (files_of c.args.self.now) (files_of c.add-node.new.self) (children_of c.args.self.now) (children_of c.add-node.new.self) c.add-node.result
-      (record { head = c.args.head; body = c.args.body.items }) None
+    (record { head = c.args.head; body = c.args.body.items }) None
 adds_first c =
     adds_alone c.args.self.now c.add-node.new.self _ c.add-node.result c.requires.arena c.add-node.ensures c.new-children.ensures.items
 

@@ -23,7 +23,7 @@ pub returns-clause-ok : goal.returns-clause-ok
 returns-clause-ok c =
     OnOk-then c.reserve.result
     (λ room.
-        let fits : length c.reserve.new.self.items < c.reserve.new.self.capacity = omega (arith, room) in
-        map_at_set (λ slot. nat_lt (length slot.children.items) slot.children.capacity) c.args.self.now.slots.items c.args.directory _ false c.requires
-        ∙ lt-ltb (length c.reserve.new.self.items) c.reserve.new.self.capacity fits)
+    let fits : length c.reserve.new.self.items < c.reserve.new.self.capacity = omega (arith, room) in
+    map_at_set (λ slot. nat_lt (length slot.children.items) slot.children.capacity) c.args.self.now.slots.items c.args.directory _ false c.requires
+    ∙ lt-ltb (length c.reserve.new.self.items) c.reserve.new.self.capacity fits)
     c.reserve.ensures.ok

@@ -12,5 +12,5 @@ loop-node-preserved c =
     let value = c.deref-slot-items.ensures.value in
     below_more _ _ c.loop-node.invariant
     (ap (λ (slots : List Slot). get_or (map (λ slot. slot.live) slots) c.loop-node.node false) (sym value)
-        ∙ map_at (λ slot. slot.live) c.deref-slot-items.result.now c.loop-node.node c.slot-item.result false c.loop-node-test.true c.slot-item.is
-        ∙ c.if-not-slot.false)
+    ∙ map_at (λ slot. slot.live) c.deref-slot-items.result.now c.loop-node.node c.slot-item.result false c.loop-node-test.true c.slot-item.is
+    ∙ c.if-not-slot.false)
