@@ -1,4 +1,5 @@
 pub mod AddLemmas
+pub mod CellLemmas
 pub mod FindLemmas
 pub mod MakeLemmas
 pub mod PlaceLemmas

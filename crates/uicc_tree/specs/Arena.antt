@@ -1,7 +1,8 @@
-use Rattle.std.specs.Prelude.{ℕ, Bool, true, false, nat_lt, ◌+◌, ◌≡◌, ◌≢◌, ◌⊎◌, ◌<◌, ◌^◌, List, ◌∷◌, [], ◌++◌, map, length, vec_capacity, IsTrue, All, Contains, slice_index_or, slice_get, Option, Some, None}
+use Rattle.std.specs.Prelude.{ℕ, Bool, true, false, nat_lt, ◌+◌, ◌≡◌, ◌≢◌, ◌⊎◌, ◌<◌, ◌^◌, List, ◌∷◌, [], ◌++◌, map, length, vec_capacity, IsTrue, All, Contains, slice_index_or, slice_get, slice_set, Option, Some, None}
 use Rattle.file_rows.specs.Path.{IsIn, master}
 use Rattle.file_rows.specs.declared.row.FileRow.{FileRow}
 use Rattle.uicc_tree.specs.Files.{Files, IsLive, file_of, path_of}
+use Rattle.uicc_tree.specs.declared.room.Room.TheVariants.{Nothing}
 use Rattle.uicc_tree.specs.declared.arena.Arena.{Arena}
 use Rattle.uicc_tree.specs.declared.arena.Slot.{Slot}
 
@@ -10,7 +11,7 @@ cell_of slot = record { head = slot.head; body = slot.body.items }
 
 -- the files that an arena holds
 abbrev pub files_of : Arena → Files
-files_of arena = record { nodes = arena.order.items; cells = map cell_of arena.slots.items }
+files_of arena = record { nodes = arena.order.items; cells = map cell_of arena.slots.items; room = Nothing }
 
 -- the children of each node
 abbrev pub children_of : Arena → List (List ℕ)
@@ -98,3 +99,18 @@ pub record Stores (old new : Arena) (slot : Slot) (node : ℕ) : Type 0 where
   pub stored : slice_get new.slots.items node ≡ Some slot
   pub others : (other : ℕ) → other ≢ node → slice_get new.slots.items other ≡ slice_get old.slots.items other
   pub few : length new.slots.items < 2 ^ 32
+
+-- the files, with another one at a node
+abbrev pub with_cell : Files → ℕ → FileRow → Files
+with_cell tree node row = record tree { cells = slice_set tree.cells node row }
+
+-- the body of a node has room for so many bytes
+abbrev pub body_room_of : Arena → List ℕ
+body_room_of arena = map (λ slot. vec_capacity slot.body) arena.slots.items
+
+-- one node holds another file, and all else is as it was
+pub record ChangesCell (old new : Arena) (node : ℕ) (row : FileRow) : Type 0 where
+  pub files : files_of new ≡ with_cell (files_of old) node row
+  pub children : children_of new ≡ children_of old
+  pub marks : marks_of new ≡ marks_of old
+  pub few : length new.slots.items ≡ length old.slots.items

@@ -7,11 +7,14 @@ use Rattle.file_rows.specs.declared.head.FileHead.{FileHead}
 use Rattle.file_rows.specs.declared.head.Kind.TheVariants.{Master, Directory, Application, Transparent, Linear, Cyclic}
 use Rattle.file_rows.specs.declared.head.Life.TheVariants.{Terminated}
 use Rattle.file_rows.specs.declared.row.FileRow.{FileRow}
+use Rattle.uicc_tree.specs.declared.room.Room.{Room}
 
--- what contracts see of a tree: the nodes of its files in the order in which they were made, and what each node holds
+-- what contracts see of a tree: the nodes of its files in the order in which they were made, what each node holds, and
+-- what memory is reserved
 pub record Files : Type 0 where
   pub nodes : List ℕ
   pub cells : List FileRow
+  pub room : Room
 
 -- what stands for the file of a node that isn't there
 abbrev pub no_head : FileHead
@@ -37,16 +40,13 @@ abbrev pub rows_of : Files → List FileRow
 rows_of tree = map (file_of tree) tree.nodes
 
 -- the node is the one of the file of this path
-pub record IsNodeOf (tree : Files) (path : List ℕ) (node : ℕ) : Type 0 where
-  pub live : IsLive tree node
-  pub file : file_at path (rows_of tree) ≡ Some (file_of tree node)
+abbrev pub IsNodeOf : Files → List ℕ → ℕ → Type 0
+IsNodeOf tree path node = IsLive tree node × (file_at path (rows_of tree) ≡ Some (file_of tree node))
 
 -- the node is that of a file in the directory with this short file identifier
-pub record HasSfi (tree : Files) (directory : List ℕ) (sfi node : ℕ) : Type 0 where
-  pub live : IsLive tree node
-  pub inside : IsIn directory (path_of tree node)
-  pub given : sfi ≢ 0
-  pub is : (file_of tree node).head.sfi ≡ sfi
+abbrev pub HasSfi : Files → List ℕ → ℕ → ℕ → Type 0
+HasSfi tree directory sfi node =
+  IsLive tree node × IsIn directory (path_of tree node) × (sfi ≢ 0) × ((file_of tree node).head.sfi ≡ sfi)
 
 abbrev pub is_application : Kind → Bool
 is_application Master = false

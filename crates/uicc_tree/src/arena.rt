@@ -14,19 +14,19 @@ const MOST_NODES: usize = 0xFFFF_FFFE;
 
 // A node: a file, and the nodes of the files directly in it.
 #[derive(Debug, Drop)]
-struct Slot {
-    head: FileHead,
-    body: Vec<u8>,
-    children: SmallVec<u32, 8>,
+pub struct Slot {
+    pub head: FileHead,
+    pub body: Vec<u8>,
+    pub children: SmallVec<u32, 8>,
     // Whether the node is that of a file.
-    live: bool,
+    pub live: bool,
 }
 
 // Nodes, named by their places in `slots`, and those of them that are files, in the order in which they were made.
 #[derive(Debug, Drop)]
 pub struct Arena {
-    slots: Vec<Slot>,
-    order: Vec<u32>,
+    pub slots: Vec<Slot>,
+    pub order: Vec<u32>,
 }
 
 // Whether a path ends with this identifier.

@@ -3,6 +3,8 @@
 #![tactic(auto)]
 
 mod arena;
+mod edits;
+mod room;
 mod tree;
 
 pub use tree::Tree;

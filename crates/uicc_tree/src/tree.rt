@@ -4,6 +4,7 @@ ghost use Rattle.file_rows.specs.Path.{IsIn, master};
 ghost use Rattle.uicc_tree.specs.Files.{IsLive, IsNodeOf, HasSfi, file_of, path_of, rows_of, application_named};
 
 use crate::arena::Arena;
+use crate::room::Room;
 use file_rows::{FileHead, FileRow, Kind, NoMemory};
 use std::alloc::Global;
 use std::marker::Model;
@@ -12,6 +13,7 @@ use std::marker::Model;
 #[derive(Debug, Drop)]
 pub struct Tree {
     arena: Arena,
+    room: Room,
 }
 
 impl Model for Tree {
@@ -21,7 +23,7 @@ impl Model for Tree {
 
     ghost use Rattle.uicc_tree.specs.Arena.{files_of, IsArena};
 
-    ghost view = { λ tree. files_of tree.arena };
+    ghost view = { λ tree. record (files_of tree.arena) { room = tree.room } };
 
     ghost invariant = { λ tree. IsArena tree.arena };
 }
@@ -39,7 +41,10 @@ impl Tree {
             let body = Vec::from_slice(alloc, row.body.as_slice())?;
             arena.place(directory, row.head.copy(), body);
         }
-        Ok(Tree { arena })
+        Ok(Tree {
+            arena,
+            room: Room::Nothing,
+        })
     }
 
     /// The node of the file of this path; the MF's is empty. It looks at the children of each file on the way.

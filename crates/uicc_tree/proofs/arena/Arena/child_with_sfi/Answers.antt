@@ -9,16 +9,11 @@ head-requires c =
 
 pub returns-clause-none : goal.returns-clause-none
 returns-clause-none c file has =
-    let place = child_place c.args.self.now c.requires.arena c.args.node c.requires.live c.children-child-items.result.now c.children-child-items.ensures file has.live has.inside in
+    let place = child_place c.args.self.now c.requires.arena c.args.node c.requires.live c.children-child-items.result.now c.children-child-items.ensures file has.0 has.1 in
     let within : place.0 < c.loop-child.child-index = omega (arith, place.1) in
-    c.loop-child.invariant.1 place.0 within (rw place.2 has.is)
+    c.loop-child.invariant.1 place.0 within (rw place.2 has.3)
 
 pub returns-then-head-sfi-clause-found : goal.returns-then-head-sfi-clause-found
 returns-then-head-sfi-clause-found c =
     let child = child_at c.args.self.now c.requires.arena c.args.node c.requires.live c.children-child-items.result.now c.children-child-items.ensures c.loop-child.child-index c.loop-child-test.true in
-    record {
-      live = child.0;
-      inside = child.1;
-      given = c.loop-child.invariant.0;
-      is = ap (λ h. h.sfi) (sym c.head.ensures) ∙ c.if-head-sfi.true;
-    }
+    (child.0, child.1, c.loop-child.invariant.0, ap (λ h. h.sfi) (sym c.head.ensures) ∙ c.if-head-sfi.true)

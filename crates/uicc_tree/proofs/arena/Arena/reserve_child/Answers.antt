@@ -3,12 +3,13 @@ use Rattle.std.proofs.lemmas.Bool.{lt-ltb}
 use Rattle.file_rows.specs.declared.row.FileRow.{FileRow}
 use Rattle.uicc_tree.specs.Arena.{cell_of}
 use Rattle.uicc_tree.specs.Files.{Files}
+use Rattle.uicc_tree.specs.declared.room.Room.TheVariants.{Nothing}
 use Rattle.uicc_tree.proofs.SlotLemmas.{OnOk-then, map_at_set, map_set_same}
 use Rattle.uicc_tree.proofs.arena.Arena.reserve_child.Goals as goal
 
 pub returns-clause-files : goal.returns-clause-files
 returns-clause-files c =
-    let with_cells : List FileRow → Files = λ cells. record { nodes = c.args.self.now.order.items; cells = cells } in
+    let with_cells : List FileRow → Files = λ cells. record { nodes = c.args.self.now.order.items; cells = cells; room = Nothing } in
     ap with_cells (map_set_same cell_of c.args.self.now.slots.items c.args.directory c.index_mut-slot.result.now _ c.index_mut-slot.ensures.value refl)
 
 pub returns-clause-children : goal.returns-clause-children
