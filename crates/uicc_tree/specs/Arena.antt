@@ -1,5 +1,5 @@
-use Rattle.std.specs.Prelude.{ℕ, Bool, true, false, nat_lt, ◌+◌, ◌≡◌, ◌≢◌, ◌⊎◌, ◌<◌, ◌^◌, List, ◌∷◌, [], ◌++◌, map, length, vec_capacity, IsTrue, All, Contains, slice_index_or, slice_get, slice_set, Option, Some, None}
-use Rattle.file_rows.specs.Path.{IsIn, master}
+use Rattle.std.specs.Prelude.{ℕ, Bool, true, false, not, ◌==◌, filter, nat_lt, ◌+◌, ◌≡◌, ◌≢◌, ◌⊎◌, ◌<◌, ◌^◌, List, ◌∷◌, [], ◌++◌, map, length, vec_capacity, IsTrue, All, Contains, slice_index_or, slice_get, slice_set, Option, Some, None}
+use Rattle.file_rows.specs.Path.{IsIn, master, stands_below}
 use Rattle.file_rows.specs.declared.row.FileRow.{FileRow}
 use Rattle.uicc_tree.specs.Files.{Files, IsLive, file_of, path_of}
 use Rattle.uicc_tree.specs.declared.room.Room.TheVariants.{Nothing}
@@ -114,3 +114,17 @@ pub record ChangesCell (old new : Arena) (node : ℕ) (row : FileRow) : Type 0 w
   pub children : children_of new ≡ children_of old
   pub marks : marks_of new ≡ marks_of old
   pub few : length new.slots.items ≡ length old.slots.items
+
+-- the slot of a node after the file of this path and node, with all below it, is gone
+pub record IsPruned (top : List ℕ) (gone : ℕ) (old new : Slot) : Type 0 where
+  pub below : stands_below top old.head.path ≡ true → new.live ≡ false
+  pub live : stands_below top old.head.path ≡ false → new.live ≡ old.live
+  pub cell : stands_below top old.head.path ≡ false → cell_of new ≡ cell_of old
+  pub children : stands_below top old.head.path ≡ false
+    → new.children.items ≡ filter (λ child. not (child == gone)) old.children.items
+
+-- each slot is so, from a node on or up to it
+abbrev pub ArePruned : List ℕ → ℕ → List Slot → List Slot → ℕ → Type 0
+ArePruned top gone old new upto =
+  (node : ℕ) (slot : Slot) → slice_get old node ≡ Some slot → node < upto
+  → (after : Slot) × (slice_get new node ≡ Some after) × IsPruned top gone slot after

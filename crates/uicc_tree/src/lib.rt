@@ -4,6 +4,7 @@
 
 mod arena;
 mod edits;
+mod removal;
 mod room;
 mod tree;
 
