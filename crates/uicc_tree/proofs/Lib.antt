@@ -4,5 +4,6 @@ pub mod FilterLemmas
 pub mod FindLemmas
 pub mod MakeLemmas
 pub mod PlaceLemmas
+pub mod RemoveLemmas
 pub mod SlotLemmas
 pub mod TreeLemmas

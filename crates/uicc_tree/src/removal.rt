@@ -1,8 +1,9 @@
 // A file that goes, with all files below it.
-ghost use Rattle.std.specs.Prelude.{◌≡◌, ◌≢◌, ℕ, ◌==◌, ◌<◌, true, false, not, filter, length, map, slice_get, slice_index_or, vec_len};
+ghost use Rattle.std.specs.Prelude.{◌≡◌, ◌≢◌, ℕ, ◌==◌, ◌<◌, true, false, not, filter, length, map, slice_get, slice_index_or};
 ghost use Rattle.std.specs.List.{starts_with};
 ghost use Rattle.file_rows.specs.Path.{stands_below};
-ghost use Rattle.uicc_tree.specs.Arena.{mark_at, IsPruned, ArePruned};
+ghost use Rattle.uicc_tree.specs.Arena.{files_of, mark_at, ArePruned, IsArena, IsPruned};
+ghost use Rattle.uicc_tree.specs.Files.{file_of, path_of, rows_of, IsLive};
 
 use crate::arena::{Arena, Slot};
 use smallvec::SmallVec;
@@ -60,5 +61,19 @@ impl Arena {
         for node in 0..self.slots.len() {
             prune(&mut self.slots[node], top, gone);
         }
+    }
+
+    // Takes away a file, and all files below it.
+    pub fn remove(&mut self, gone: u32, top: &[u16])
+        requires arena { IsArena self.old }
+        requires live { IsLive (files_of self.old) gone }
+        requires path { path_of (files_of self.old) gone ≡ top.now }
+        ensures arena { IsArena self.new }
+        ensures rows { rows_of (files_of self.new) ≡ filter (λ row. not (stands_below top.now row.head.path)) (rows_of (files_of self.old)) }
+        ensures stay { (node : ℕ) → IsLive (files_of self.old) node → stands_below top.now (path_of (files_of self.old) node) ≡ false
+            → IsLive (files_of self.new) node × (file_of (files_of self.new) node ≡ file_of (files_of self.old) node) }
+    {
+        self.prune_all(top, gone);
+        leave_out_dead(&mut self.order, self.slots.as_slice());
     }
 }
