@@ -1,5 +1,6 @@
 pub mod AddLemmas
 pub mod CellLemmas
+pub mod ChangeLemmas
 pub mod FilterLemmas
 pub mod FindLemmas
 pub mod MakeLemmas
