@@ -1,15 +1,14 @@
-use Rattle.std.proofs.Common.{◌≡◌, ◌≢◌, ℕ, ◌<◌, Bool, true, false, cond, List, ◌∷◌, [], ◌++◌, map, length, Contains, get_or, set, refl, sym, ◌∙◌, ap, subst, Option, Some, None, arith, ⊎_elim}
+use Rattle.std.proofs.Common.{◌≡◌, ◌≢◌, ℕ, Bool, true, false, cond, List, ◌∷◌, [], ◌++◌, map, Contains, refl, sym, ◌∙◌, ap, subst, Option, Some, None, arith, ⊎_elim}
 use Rattle.std.proofs.lemmas.Bool.{cases_eq}
 use Rattle.std.proofs.lemmas.List.{get_or-set_other, get_or-set_same, length-map, length-set}
-use Rattle.std.proofs.lemmas.List.Elements.{Contains-get_or}
 use Rattle.std.proofs.lemmas.Slice.Eq.{bytes_eq-Decides}
 use Rattle.std.specs.Prelude.{IsSomeAnd}
 use Rattle.file_rows.specs.Change.{with_file}
-use Rattle.file_rows.specs.Content.{file_at}
 use Rattle.file_rows.specs.Path.{IsIn, same_path}
 use Rattle.file_rows.specs.declared.row.FileRow.{FileRow}
 use Rattle.file_rows.proofs.ChangeLemmas.{same_path-other}
-use Rattle.uicc_tree.specs.Arena.{ChangesCell, IsArena, cell_of, IsTree, children_of, files_of, mark_at, marks_of, with_cell}
+use Rattle.uicc_tree.specs.Arena.{ChangesCell, IsArena, cell_of, IsTree, children_of, files_of, mark_at, with_cell}
+use Rattle.uicc_tree.specs.Change.{Changes}
 use Rattle.uicc_tree.specs.Files.{Files, IsLive, file_of, no_file, path_of, rows_of}
 use Rattle.uicc_tree.specs.declared.arena.Arena.{Arena}
 use Rattle.uicc_tree.proofs.FindLemmas.{contains_first, contains_later}
@@ -46,7 +45,7 @@ module _ (old new : Arena) (node : ℕ) (path : List ℕ) (change : FileRow → 
   path_same : (n : ℕ) → path_of tree n ≡ path_of (files_of old) n
   path_same n = ⊎_elim
       (λ same.
-          ap (path_of tree) same ∙ ap (λ (r : FileRow). r.head.path) here ∙ keeps (file_of (files_of old) node) ∙ ap (path_of (files_of old)) (sym same))
+      ap (path_of tree) same ∙ ap (λ (r : FileRow). r.head.path) here ∙ keeps (file_of (files_of old) node) ∙ ap (path_of (files_of old)) (sym same))
       (λ apart. ap (λ (r : FileRow). r.head.path) (elsewhere n apart))
       (cases_eq n node)
 
@@ -54,13 +53,13 @@ module _ (old new : Arena) (node : ℕ) (path : List ℕ) (change : FileRow → 
       → file_of tree n ≡ cond (same_path (path_of (files_of old) n) path) (change (file_of (files_of old) n)) (file_of (files_of old) n)
   row_same n there = ⊎_elim
       (λ same.
-          let test : same_path (path_of (files_of old) n) path ≡ true = (bytes_eq-Decides (path_of (files_of old) n) path).1 (ap (path_of (files_of old)) same ∙ at) in
-          ap (file_of tree) same ∙ here ∙ ap (λ (k : ℕ). change (file_of (files_of old) k)) (sym same)
-          ∙ ap (λ (b : Bool). cond b (change (file_of (files_of old) n)) (file_of (files_of old) n)) (sym test))
+      let test : same_path (path_of (files_of old) n) path ≡ true = (bytes_eq-Decides (path_of (files_of old) n) path).1 (ap (path_of (files_of old)) same ∙ at) in
+      ap (file_of tree) same ∙ here ∙ ap (λ (k : ℕ). change (file_of (files_of old) k)) (sym same)
+      ∙ ap (λ (b : Bool). cond b (change (file_of (files_of old) n)) (file_of (files_of old) n)) (sym test))
       (λ apart.
-          let test : same_path (path_of (files_of old) n) path ≡ false =
-              same_path-other (path_of (files_of old) n) path (λ e. apart (arena.tree.distinct n node there live (e ∙ sym at))) in
-          elsewhere n apart ∙ ap (λ (b : Bool). cond b (change (file_of (files_of old) n)) (file_of (files_of old) n)) (sym test))
+      let test : same_path (path_of (files_of old) n) path ≡ false =
+      same_path-other (path_of (files_of old) n) path (λ e. apart (arena.tree.distinct n node there live (e ∙ sym at))) in
+      elsewhere n apart ∙ ap (λ (b : Bool). cond b (change (file_of (files_of old) n)) (file_of (files_of old) n)) (sym test))
       (cases_eq n node)
 
   inside_same : (n child : ℕ) → IsIn (path_of (files_of old) n) (path_of (files_of old) child) → IsIn (path_of tree n) (path_of tree child)
@@ -98,3 +97,13 @@ module _ (old new : Arena) (node : ℕ) (path : List ℕ) (change : FileRow → 
 
   pub path_stays : (n : ℕ) → path_of (files_of new) n ≡ path_of (files_of old) n
   path_stays n = ap (λ (t : Files). path_of t n) changes.files ∙ path_same n
+
+-- one file is changed, by its node
+pub changes_file : (old new : Arena) (node : ℕ) (path : List ℕ) (change : FileRow → FileRow) → IsArena old → IsLive (files_of old) node → path_of (files_of old) node ≡ path
+    → ((row : FileRow) → (change row).head.path ≡ row.head.path) → ChangesCell old new node (change (file_of (files_of old) node)) → Changes old new path change
+changes_file old new node path change arena live at keeps changes = record {
+  arena = arena_same old new node path change arena live at keeps changes;
+  rows = rows_same old new node path change arena live at keeps changes;
+  nodes = nodes_same old new node path change arena live at keeps changes;
+  paths = path_stays old new node path change arena live at keeps changes;
+}

@@ -1,4 +1,4 @@
-use Rattle.std.proofs.Common.{◌≡◌, ℕ, suc, zero, Bool, true, false, cond, List, ◌∷◌, [], map, filter, Contains, refl, sym, ◌∙◌, ap, subst, inl, inr, ⊎_elim, arith}
+use Rattle.std.proofs.Common.{◌≡◌, Bool, true, false, cond, List, ◌∷◌, [], map, filter, Contains, refl, sym, ◌∙◌, ap, subst, ⊎_elim, arith}
 use Rattle.std.proofs.lemmas.Bool.{true≢false}
 use Rattle.std.specs.List.Retain.{RetainsInTurn}
 use Rattle.uicc_tree.proofs.FindLemmas.{contains_cases, contains_first, contains_later}
@@ -11,7 +11,7 @@ filter_from_turns R test s says [] ys turns = turns
 filter_from_turns {X} {S} R test s says (x ∷ xs) ys turns =
     let told = says x turns.0 turns.1 turns.2 turns.3 in
     let rest : turns.4 ≡ filter test xs =
-        filter_from_turns R test s says xs turns.4 (subst (λ (t : S). RetainsInTurn R t xs turns.4) told.2 turns.5) in
+    filter_from_turns R test s says xs turns.4 (subst (λ (t : S). RetainsInTurn R t xs turns.4) told.2 turns.5) in
     turns.6
     ∙ ap (λ (b : Bool). cond b (turns.2 ∷ turns.4) turns.4) told.0
     ∙ ap (λ (y : X). cond (test x) (y ∷ turns.4) turns.4) told.1
@@ -58,7 +58,7 @@ module _ {X Y : Type 0} where
   map-filter f g p q [] tests same = refl
   map-filter f g p q (x ∷ xs) tests same =
       let rest : map g (filter p xs) ≡ filter q (map f xs) =
-          map-filter f g p q xs (λ y there. tests y (contains_later x xs y there)) (λ y there. same y (contains_later x xs y there)) in
+      map-filter f g p q xs (λ y there. tests y (contains_later x xs y there)) (λ y there. same y (contains_later x xs y there)) in
       let step : (b : Bool) → p x ≡ b → map g (cond b (x ∷ filter p xs) (filter p xs)) ≡ cond (q (f x)) (f x ∷ filter q (map f xs)) (filter q (map f xs))
       = λ b. elim b as (λ b. p x ≡ b → map g (cond b (x ∷ filter p xs) (filter p xs)) ≡ cond (q (f x)) (f x ∷ filter q (map f xs)) (filter q (map f xs))) [
         | true ↦ λ e.

@@ -1,4 +1,5 @@
 pub mod AddLemmas
+pub mod ApplyLemmas
 pub mod CellLemmas
 pub mod ChangeLemmas
 pub mod FilterLemmas

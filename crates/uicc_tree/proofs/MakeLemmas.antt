@@ -58,7 +58,7 @@ head_at (row ∷ rows) zero = refl
 head_at (row ∷ rows) (suc k) = head_at rows k
 
 -- the file at a place of the rows of a tree
-row_at : (tree : Files) (nodes : List ℕ) (k : ℕ) → k < length nodes → get_or (map (file_of tree) nodes) k no_file ≡ file_of tree (get_or nodes k 0)
+pub row_at : (tree : Files) (nodes : List ℕ) (k : ℕ) → k < length nodes → get_or (map (file_of tree) nodes) k no_file ≡ file_of tree (get_or nodes k 0)
 row_at tree [] k within = absurd (omega (arith, within))
 row_at tree (node ∷ nodes) zero within = refl
 row_at tree (node ∷ nodes) (suc k) within = row_at tree nodes k (omega (arith, within))

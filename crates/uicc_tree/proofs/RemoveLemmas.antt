@@ -1,4 +1,4 @@
-use Rattle.std.proofs.Common.{◌≡◌, ◌≢◌, ◌⊎◌, ℕ, zero, suc, ◌<◌, Bool, true, false, not, cond, ◌==◌, List, ◌∷◌, [], ◌++◌, map, filter, length, drop, All, Contains, get_or, refl, sym, ◌∙◌, ap, subst, Some, inl, inr, arith, ⊎_elim}
+use Rattle.std.proofs.Common.{◌≡◌, ◌≢◌, ◌⊎◌, ℕ, ◌<◌, Bool, true, false, not, cond, ◌==◌, List, ◌∷◌, [], ◌++◌, map, filter, length, drop, Contains, get_or, refl, sym, ◌∙◌, ap, subst, Some, inl, inr, arith, ⊎_elim}
 use Rattle.std.specs.Prelude.{slice_get}
 use Rattle.std.proofs.lemmas.Bool.{true≢false}
 use Rattle.std.proofs.lemmas.Bool.Decides.{Decides-eqb}
@@ -8,15 +8,14 @@ use Rattle.std.proofs.lemmas.Option.{none-some, same_Some}
 use Rattle.std.proofs.lemmas.Slice.Eq.{starts_is}
 use Rattle.file_rows.specs.Path.{IsIn, master, stands_below}
 use Rattle.file_rows.specs.declared.row.FileRow.{FileRow}
-use Rattle.uicc_tree.specs.Arena.{ArePruned, IsArena, IsPruned, IsTree, cell_of, children_at, children_of, files_of, mark_at, marks_of}
-use Rattle.uicc_tree.specs.Files.{Files, IsLive, file_of, no_file, path_of, rows_of}
+use Rattle.uicc_tree.specs.Arena.{ArePruned, IsArena, IsPruned, cell_of, children_at, children_of, files_of, mark_at, marks_of}
+use Rattle.uicc_tree.specs.Files.{IsLive, file_of, no_file, path_of, rows_of}
 use Rattle.uicc_tree.specs.declared.arena.Arena.{Arena}
 use Rattle.uicc_tree.specs.declared.arena.Slot.{Slot}
-use Rattle.uicc_tree.proofs.AddLemmas.{nothing}
 use Rattle.uicc_tree.proofs.FilterLemmas.{contains-filter, filter-contains, map-filter}
 use Rattle.uicc_tree.proofs.FindLemmas.{contains_first}
 use Rattle.uicc_tree.proofs.SlotLemmas.{map_get_some, some_within}
-use Rattle.uicc_tree.proofs.TreeLemmas.{in_slots, snoc_same}
+use Rattle.uicc_tree.proofs.TreeLemmas.{in_slots}
 
 -- a path below another begins with it
 below_is : (top path : List ℕ) → stands_below top path ≡ true → path ≡ top ++ drop (length top) path
@@ -135,8 +134,8 @@ module _ (old new : Arena) (gone : ℕ) (top : List ℕ) (arena : IsArena old)
   rows_stay =
       ap (map (file_of (files_of new))) order
       ∙ map-filter (file_of (files_of old)) (file_of (files_of new)) (mark_at (marks_of new)) (λ row. not (stands_below top row.head.path)) old.order.items
-        (λ n live. mark_new n live)
-        (λ n live on. file_new n live (from_not (below n) (sym (mark_new n live) ∙ on)))
+      (λ n live. mark_new n live)
+      (λ n live on. file_new n live (from_not (below n) (sym (mark_new n live) ∙ on)))
 
   gone_below : below gone ≡ true
   gone_below = is_below top (path_of (files_of old) gone) [] (at_top ∙ sym (append-nil top))
@@ -160,14 +159,14 @@ module _ (old new : Arena) (gone : ℕ) (top : List ℕ) (arena : IsArena old)
   child_stays n child live listed =
       let stay = stays n live in
       let was = contains-filter (λ c. not (c == gone)) (children_at (children_of old) n) child
-          (subst (λ (cs : List ℕ). Contains cs child) (children_new n stay.0 stay.1) listed) in
+      (subst (λ (cs : List ℕ). Contains cs child) (children_new n stay.0 stay.1) listed) in
       let it = arena.tree.child_is n child stay.0 was.0 in
       let apart : child ≢ gone = λ e. true≢false (sym ((Decides-eqb child gone).1 e) ∙ from_not (child == gone) was.1) in
       let beside : below child ≡ false = ⊎_elim
-          (λ inside. absurd (apart (arena.tree.distinct child gone it.0 there
-              (it.1.1 ∙ only_top top (path_of (files_of old) n) it.1.0 (ap (stands_below top) (sym it.1.1) ∙ inside) stay.1 ∙ sym at_top))))
-          (λ out. out)
-          (true_or_false (below child)) in
+      (λ inside. absurd (apart (arena.tree.distinct child gone it.0 there
+      (it.1.1 ∙ only_top top (path_of (files_of old) n) it.1.0 (ap (stands_below top) (sym it.1.1) ∙ inside) stay.1 ∙ sym at_top))))
+      (λ out. out)
+      (true_or_false (below child)) in
       let too : IsLive (files_of new) child = kept child it.0 beside in
       (too, inside_new n child live too it.1)
 
@@ -177,7 +176,7 @@ module _ (old new : Arena) (gone : ℕ) (top : List ℕ) (arena : IsArena old)
       let stay = stays n live in
       let other = stays child too in
       let was : IsIn (path_of (files_of old) n) (path_of (files_of old) child) =
-          (inside.0, sym (path_new child too) ∙ inside.1 ∙ ap (λ (p : List ℕ). p ++ inside.0 ∷ []) (path_new n live)) in
+      (inside.0, sym (path_new child too) ∙ inside.1 ∙ ap (λ (p : List ℕ). p ++ inside.0 ∷ []) (path_new n live)) in
       subst (λ (cs : List ℕ). Contains cs child) (sym (children_new n stay.0 stay.1))
       (filter-contains (λ c. not (c == gone)) (children_at (children_of old) n) child (arena.tree.child_known n child stay.0 other.0 was) (apart_test child (not_gone child other.1)))
 
@@ -188,10 +187,10 @@ module _ (old new : Arena) (gone : ℕ) (top : List ℕ) (arena : IsArena old)
       let path : path_of (files_of old) n ≡ directory ++ id ∷ [] = sym (path_new n live) ∙ e in
       let up = arena.tree.closed n directory id stay.0 path in
       let beside : below up.0 ≡ false = ⊎_elim
-          (λ inside. absurd (true≢false
-              (sym (ap (stands_below top) path ∙ below_more top directory (id ∷ []) (ap (stands_below top) (sym up.2) ∙ inside)) ∙ stay.1)))
-          (λ out. out)
-          (true_or_false (below up.0)) in
+      (λ inside. absurd (true≢false
+      (sym (ap (stands_below top) path ∙ below_more top directory (id ∷ []) (ap (stands_below top) (sym up.2) ∙ inside)) ∙ stay.1)))
+      (λ out. out)
+      (true_or_false (below up.0)) in
       let live_up : IsLive (files_of new) up.0 = kept up.0 up.1 beside in
       (up.0, live_up, path_new up.0 live_up ∙ up.2)
 

@@ -84,10 +84,11 @@ none_below tree children is path i at within here none node live e =
 pub node_of_path : (tree : Files) (children : List (List ℕ)) → IsTree tree children → (path : List ℕ) (node : ℕ) → IsLive tree node
     → path_of tree node ≡ path → IsNodeOf tree path node
 node_of_path tree children is path node live at =
-    let test : FileRow → Bool = λ row. same_path row.head.path path in
-    (live,
-     find_only (file_of tree) test tree.nodes node live ((bytes_eq-Decides (path_of tree node) path).1 at)
-     (λ other there same. ap (file_of tree) (is.distinct other node there live ((bytes_eq-Decides (path_of tree other) path).0 same ∙ sym at))))
+    let test : FileRow → Bool = λ row. same_path row.head.path path in (
+      live,
+      find_only (file_of tree) test tree.nodes node live ((bytes_eq-Decides (path_of tree node) path).1 at)
+          (λ other there same. ap (file_of tree) (is.distinct other node there live ((bytes_eq-Decides (path_of tree other) path).0 same ∙ sym at))),
+    )
 
 -- where no node has the path there is no file of it
 pub no_file_at : (tree : Files) (path : List ℕ) → ((node : ℕ) → IsLive tree node → path_of tree node ≡ path → ⊥) → file_at path (rows_of tree) ≡ None

@@ -121,10 +121,17 @@ pub record IsPruned (top : List ℕ) (gone : ℕ) (old new : Slot) : Type 0 wher
   pub live : stands_below top old.head.path ≡ false → new.live ≡ old.live
   pub cell : stands_below top old.head.path ≡ false → cell_of new ≡ cell_of old
   pub children : stands_below top old.head.path ≡ false
-    → new.children.items ≡ filter (λ child. not (child == gone)) old.children.items
+      → new.children.items ≡ filter (λ child. not (child == gone)) old.children.items
 
 -- each slot is so, from a node on or up to it
 abbrev pub ArePruned : List ℕ → ℕ → List Slot → List Slot → ℕ → Type 0
 ArePruned top gone old new upto =
-  (node : ℕ) (slot : Slot) → slice_get old node ≡ Some slot → node < upto
-  → (after : Slot) × (slice_get new node ≡ Some after) × IsPruned top gone slot after
+    (node : ℕ) (slot : Slot) → slice_get old node ≡ Some slot → node < upto
+    → (after : Slot) × (slice_get new node ≡ Some after) × IsPruned top gone slot after
+
+-- all that contracts see of an arena is as it was
+pub record SameNodes (old new : Arena) : Type 0 where
+  pub files : files_of new ≡ files_of old
+  pub children : children_of new ≡ children_of old
+  pub marks : marks_of new ≡ marks_of old
+  pub few : length new.slots.items ≡ length old.slots.items

@@ -46,7 +46,7 @@ IsNodeOf tree path node = IsLive tree node × (file_at path (rows_of tree) ≡ S
 -- the node is that of a file in the directory with this short file identifier
 abbrev pub HasSfi : Files → List ℕ → ℕ → ℕ → Type 0
 HasSfi tree directory sfi node =
-  IsLive tree node × IsIn directory (path_of tree node) × (sfi ≢ 0) × ((file_of tree node).head.sfi ≡ sfi)
+    IsLive tree node × IsIn directory (path_of tree node) × (sfi ≢ 0) × ((file_of tree node).head.sfi ≡ sfi)
 
 abbrev pub is_application : Kind → Bool
 is_application Master = false

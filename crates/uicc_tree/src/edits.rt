@@ -1,11 +1,12 @@
 // Changes of one file.
-ghost use Rattle.std.specs.Prelude.{◌≡◌, ◌<◌, ◌≤◌, ◌+◌, length, slice_index};
+ghost use Rattle.std.specs.Prelude.{◌≡◌, ◌<◌, ◌≤◌, ◌+◌, length, slice_index, OnOk};
 ghost use Rattle.file_rows.specs.Change.{with_body, with_life, with_record, with_size, written};
-ghost use Rattle.uicc_tree.specs.Arena.{body_room_of, files_of, ChangesCell};
+ghost use Rattle.uicc_tree.specs.Arena.{body_room_of, files_of, ChangesCell, SameNodes};
 ghost use Rattle.uicc_tree.specs.Files.{file_of};
 
 use crate::arena::Arena;
 use file_rows::Life;
+use std::alloc::AllocError;
 
 // Writes bytes over those of a body from an offset on.
 fn write_bytes(body: &mut [u8], offset: usize, bytes: &[u8])
@@ -68,5 +69,16 @@ impl Arena {
         } else {
             let _ = slot.body.resize(size, 0xFF);
         }
+    }
+
+    // Takes the memory that a body of this size needs.
+    pub fn reserve_body(&mut self, node: u32, size: u16) -> Result<(), AllocError>
+        requires { node < length self.old.slots.items }
+        ensures same { SameNodes self.old self.new }
+        ensures ok { OnOk result (size ≤ slice_index (body_room_of self.new) node) }
+    {
+        let slot = &mut self.slots[node as usize];
+        let more = usize::from(size).saturating_sub(slot.body.len());
+        slot.body.reserve(more)
     }
 }

@@ -3,9 +3,11 @@
 #![tactic(auto)]
 
 mod arena;
+mod changes;
 mod edits;
 mod removal;
 mod room;
+mod steps;
 mod tree;
 
 pub use tree::Tree;

@@ -1,19 +1,24 @@
-ghost use Rattle.std.specs.Prelude.{◌≡◌, ◌≢◌, ℕ, ◌++◌, ◌∷◌, [], List, Some, None, IfOk, IfSome, IfNone, ◌⊎◌};
+ghost use Rattle.std.specs.Prelude.{◌≡◌, ◌≢◌, ℕ, ◌++◌, ◌∷◌, [], List, Some, None, Option, IsSome, OnOk, IfOk, IfSome, IfNone, ◌⊎◌};
 ghost use Rattle.file_rows.specs.Content.{AreFiles, file_at};
 ghost use Rattle.file_rows.specs.Path.{IsIn, master};
+ghost use Rattle.uicc_tree.specs.Arena.{HasDirectory, StandsIn};
+ghost use Rattle.uicc_tree.specs.Change.{FitsFiles, HasRoom, Outlives, rows_after};
 ghost use Rattle.uicc_tree.specs.Files.{IsLive, IsNodeOf, HasSfi, file_of, path_of, rows_of, application_named};
 
 use crate::arena::Arena;
 use crate::room::Room;
-use file_rows::{FileHead, FileRow, Kind, NoMemory};
+use file_rows::{Change, FileHead, FileRow, Kind, NoMemory};
 use std::alloc::Global;
 use std::marker::Model;
+use std::mem;
 
 /// The files of a card. A file is named by its node, which stays the same while the file is there.
 #[derive(Debug, Drop)]
 pub struct Tree {
     arena: Arena,
     room: Room,
+    // The body of the file for which memory is reserved.
+    spare: Vec<u8>,
 }
 
 impl Model for Tree {
@@ -21,11 +26,12 @@ impl Model for Tree {
 
     ghost Value = { Files };
 
-    ghost use Rattle.uicc_tree.specs.Arena.{files_of, IsArena};
+    ghost use Rattle.uicc_tree.specs.Arena.{files_of};
+    ghost use Rattle.uicc_tree.specs.Change.{IsKept};
 
     ghost view = { λ tree. record (files_of tree.arena) { room = tree.room } };
 
-    ghost invariant = { λ tree. IsArena tree.arena };
+    ghost invariant = { λ tree. IsKept tree.arena tree.spare.items tree.room };
 }
 
 impl Tree {
@@ -44,6 +50,7 @@ impl Tree {
         Ok(Tree {
             arena,
             room: Room::Nothing,
+            spare: Vec::new(alloc),
         })
     }
 
@@ -113,5 +120,70 @@ impl Tree {
         ensures none { IfNone result (path_of self.now node ≡ master) }
     {
         self.arena.parent(node)
+    }
+
+    /// Takes the memory that `apply` needs for this change. Nothing else changes, and memory that was reserved for
+    /// another change is given back.
+    pub fn reserve(&mut self, change: &Change) -> Result<(), NoMemory>
+        requires { FitsFiles self.old change.now }
+        ensures nodes { self.new.nodes ≡ self.old.nodes }
+        ensures cells { self.new.cells ≡ self.old.cells }
+        ensures room { OnOk result (HasRoom self.new change.now) }
+    {
+        match change {
+            Change::FileAdd { head } => self.reserve_file(head),
+            Change::FileSize { path, size } => self.reserve_size(path.as_slice(), *size),
+            _ => Ok(()),
+        }
+    }
+
+    fn reserve_file(&mut self, head: &FileHead) -> Result<(), NoMemory>
+        requires { HasDirectory self.old head.now.path }
+        ensures nodes { self.new.nodes ≡ self.old.nodes }
+        ensures cells { self.new.cells ≡ self.old.cells }
+        ensures room { OnOk result ((directory : Option ℕ) × StandsIn self.new head.now.path directory
+            × (self.new.room ≡ Room.Add directory head.now.size)) }
+    {
+        self.room = Room::Nothing;
+        let directory = self.arena.directory_of(head.path.as_slice());
+        self.arena.reserve_place(directory)?;
+        self.spare = vec![in *self.spare.allocator(); 0xFF; usize::from(head.size)]?;
+        self.room = Room::Add {
+            directory,
+            size: head.size,
+        };
+        Ok(())
+    }
+
+    fn reserve_size(&mut self, path: &[u16], size: u16) -> Result<(), NoMemory>
+        requires { IsSome (file_at path.now (rows_of self.old)) }
+        ensures nodes { self.new.nodes ≡ self.old.nodes }
+        ensures cells { self.new.cells ≡ self.old.cells }
+        ensures room { OnOk result ((node : ℕ) × IsLive self.new node × (path_of self.new node ≡ path.now)
+            × (self.new.room ≡ Room.Size node size)) }
+    {
+        self.room = Room::Nothing;
+        if let Some(node) = self.arena.find(path) {
+            self.arena.reserve_body(node, size)?;
+            self.room = Room::Size { node, size };
+        }
+        Ok(())
+    }
+
+    /// Makes a change for which memory is reserved, and takes none itself. A write moves the bytes written alone, and a
+    /// new record of a cyclic file moves that file's body. A file that is added takes a node that was freed, where there
+    /// is one. A file that goes costs a look at each file.
+    pub fn apply(&mut self, change: &Change)
+        requires fits { FitsFiles self.old change.now }
+        requires room { HasRoom self.old change.now }
+        ensures rows { rows_of self.new ≡ rows_after (rows_of self.old) change.now }
+        ensures stay { (node : ℕ) → IsLive self.old node → Outlives (path_of self.old node) change.now
+            → IsLive self.new node × (path_of self.new node ≡ path_of self.old node) }
+        ensures room { self.new.room ≡ Room.Nothing }
+    {
+        let alloc = *self.spare.allocator();
+        let spare = mem::replace(&mut self.spare, Vec::new(alloc));
+        self.arena.change(change, self.room, spare);
+        self.room = Room::Nothing;
     }
 }

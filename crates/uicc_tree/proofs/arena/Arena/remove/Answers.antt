@@ -1,4 +1,4 @@
-use Rattle.std.proofs.Common.{◌≡◌, ℕ, List, filter, map, ◌∙◌, ap}
+use Rattle.std.proofs.Common.{◌≡◌, List, filter, map, ◌∙◌, ap}
 use Rattle.uicc_tree.specs.Arena.{mark_at}
 use Rattle.uicc_tree.specs.declared.arena.Slot.{Slot}
 use Rattle.uicc_tree.proofs.RemoveLemmas.{file_kept, rows_stay, tree_stays}

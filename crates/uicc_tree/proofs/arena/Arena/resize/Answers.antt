@@ -1,4 +1,4 @@
-use Rattle.std.proofs.Common.{◌≡◌, ℕ, ◌-◌, ◌≤◌, Bool, cond, List, [], ◌++◌, length, take, replicate, vec_len, arith, refl, sym, ◌∙◌, ap}
+use Rattle.std.proofs.Common.{◌≡◌, ℕ, ◌-◌, ◌≤◌, Bool, cond, List, ◌++◌, length, take, replicate, vec_len, arith, refl, sym, ◌∙◌, ap}
 use Rattle.std.specs.Prelude.{vec_capacity}
 use Rattle.std.proofs.lemmas.List.{append-nil}
 use Rattle.file_rows.specs.Change.{resized, with_size}
@@ -21,7 +21,7 @@ returns-then-size-len c =
     let fits : c.args.size ≤ length slot.body.items = omega (arith, c.if-size-len.true, c.len.ensures, c.from-size.ensures, slot.body.ok.0) in
     changes_cell c.args.self.now _ c.args.node slot _ _ c.index_mut-slot.ensures.value refl refl refl refl
     (ap with_bytes (c.truncate.ensures.items ∙ ap (λ (n : ℕ). take n slot.body.items) c.from-size.ensures ∙ cut c.args.size slot.body.items fits)
-        ∙ ap (with_size c.args.size) (sym (cell_at c.args.self.now c.args.node slot c.requires.within c.index_mut-slot.ensures.value)))
+    ∙ ap (with_size c.args.size) (sym (cell_at c.args.self.now c.args.node slot c.requires.within c.index_mut-slot.ensures.value)))
 
 pub returns-else-size-len : goal.returns-else-size-len
 returns-else-size-len c =
@@ -31,9 +31,9 @@ returns-else-size-len c =
     let room : c.from-size.result ≤ vec_capacity slot.body = omega (arith, c.from-size.ensures, c.requires.room, capacity) in
     let ok = c.resize.ensures.succeeds room in
     let body : c.resize.new.self.items ≡ resized c.args.size slot.body.items =
-        c.resize.ensures.items
-        ∙ ap (λ (b : Bool). cond b (take c.from-size.result slot.body.items ++ replicate (c.from-size.result - vec_len slot.body) 255) slot.body.items) ok
-        ∙ ap (λ (n : ℕ). take n slot.body.items ++ replicate (n - vec_len slot.body) 255) c.from-size.ensures
-        ∙ ap (λ (n : ℕ). take c.args.size slot.body.items ++ replicate (c.args.size - n) 255) slot.body.ok.0 in
+    c.resize.ensures.items
+    ∙ ap (λ (b : Bool). cond b (take c.from-size.result slot.body.items ++ replicate (c.from-size.result - vec_len slot.body) 255) slot.body.items) ok
+    ∙ ap (λ (n : ℕ). take n slot.body.items ++ replicate (n - vec_len slot.body) 255) c.from-size.ensures
+    ∙ ap (λ (n : ℕ). take c.args.size slot.body.items ++ replicate (c.args.size - n) 255) slot.body.ok.0 in
     changes_cell c.args.self.now _ c.args.node slot _ _ c.index_mut-slot.ensures.value refl refl refl refl
     (ap with_bytes body ∙ ap (with_size c.args.size) (sym (cell_at c.args.self.now c.args.node slot c.requires.within c.index_mut-slot.ensures.value)))

@@ -12,4 +12,4 @@ returns c =
     let long : length c.turn_bytes.new.body ≡ slot.body.len = omega (arith, c.turn_bytes.auto.body, c.as_mut_slice.ensures.len) in
     changes_cell c.args.self.now _ c.args.node slot _ _ c.index_mut-slot.ensures.value refl refl refl refl
     (ap with_bytes (with_items_is slot.body c.turn_bytes.new.body long ∙ c.turn_bytes.ensures ∙ ap (with_record 0 c.args.bytes.now) c.as_mut_slice.ensures.value)
-        ∙ ap (with_body (with_record 0 c.args.bytes.now)) (sym (cell_at c.args.self.now c.args.node slot c.requires.within c.index_mut-slot.ensures.value)))
+    ∙ ap (with_body (with_record 0 c.args.bytes.now)) (sym (cell_at c.args.self.now c.args.node slot c.requires.within c.index_mut-slot.ensures.value)))

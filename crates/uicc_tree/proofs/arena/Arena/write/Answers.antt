@@ -12,4 +12,4 @@ returns c =
     let long : length c.write_bytes.new.body ≡ slot.body.len = omega (arith, c.write_bytes.auto.body, c.as_mut_slice.ensures.len) in
     changes_cell c.args.self.now _ c.args.node slot _ _ c.index_mut-slot.ensures.value refl refl refl refl
     (ap with_bytes (with_items_is slot.body c.write_bytes.new.body long ∙ c.write_bytes.ensures ∙ ap (written c.args.offset c.args.bytes.now) c.as_mut_slice.ensures.value)
-        ∙ ap (with_body (written c.args.offset c.args.bytes.now)) (sym (cell_at c.args.self.now c.args.node slot c.requires.within c.index_mut-slot.ensures.value)))
+    ∙ ap (with_body (written c.args.offset c.args.bytes.now)) (sym (cell_at c.args.self.now c.args.node slot c.requires.within c.index_mut-slot.ensures.value)))
