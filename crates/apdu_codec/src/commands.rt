@@ -1,6 +1,7 @@
 //! Command APDUs.
 ghost use Rattle.std.specs.Prelude.{◌≡◌, ℕ, ◌+◌, ◌<◌, ◌≤◌, List, length, Option, IfOk, IfErr, OnOk, OnErr};
 ghost use Rattle.apdu_codec.specs.Class.{HasClass, class_refusal};
+ghost use Rattle.apdu_codec.specs.declared.commands.Class.{Class};
 ghost use Rattle.apdu_codec.specs.Command.{IsCommand, Spells, SpellsTail, Spoken, expected, refusal, spoken};
 
 use crate::Sw;
@@ -38,9 +39,11 @@ struct Tail<'a> {
 
 /// Reads a command APDU in one of the four short cases of ISO/IEC 7816-4.
 ///
-/// Fewer than 4 bytes are refused with `6700`, then a class byte that isn't taken with `6E00`, and
-/// then a wrong length of what follows the header with `6700`. An Lc of 00 isn't taken, and so are
-/// extended lengths.
+/// The class bytes 00 to 03 and 80 to 83 are taken, on the channels 0 to 3.
+///
+/// Fewer than 4 bytes are refused with `6700`, then the class bytes of secure messaging with `6882`,
+/// those of the channels 4 to 19 with `6881` and all others with `6E00`, and then a wrong length of
+/// what follows the header with `6700`. Neither an Lc of 00 nor extended lengths are taken.
 pub fn read_command(bytes: &[u8]) -> Result<Command<'_>, Sw>
     ensures spelled { IfOk result (λ c. Spells bytes.now (spoken c)) }
     ensures only { IfOk result (λ c. (d : Spoken) → Spells bytes.now d → d ≡ spoken c) }
@@ -67,13 +70,20 @@ pub fn read_command(bytes: &[u8]) -> Result<Command<'_>, Sw>
 // The class and the channel of a class byte.
 fn read_class(byte: u8) -> Result<(Class, u8), Sw>
     ensures taken { IfOk result (λ r. HasClass byte r.0 r.1) }
+    ensures only { IfOk result
+        (λ r. (class : Class) (channel : ℕ) → HasClass byte class channel → (class ≡ r.0) × (channel ≡ r.1)) }
+    ensures none { OnErr result ((class : Class) (channel : ℕ) → ¬ HasClass byte class channel) }
     ensures not_refused { OnOk result (class_refusal byte ≡ None) }
     ensures refused { IfErr result (λ sw. class_refusal byte ≡ Some sw) }
 {
-    if byte == 0x00 {
-        Ok((Class::Standard, 0))
-    } else {
-        Err(Sw::WRONG_CLASS)
+    match byte {
+        0x00..=0x03 => Ok((Class::Standard, byte)),
+        0x80..=0x83 => Ok((Class::Special, byte - 0x80)),
+        0x04..=0x0F | 0x84..=0x8F | 0x60..=0x6F | 0xE0..=0xEF => {
+            Err(Sw::SECURE_MESSAGING_NOT_SUPPORTED)
+        }
+        0x40..=0x4F | 0xC0..=0xCF => Err(Sw::CHANNEL_NOT_SUPPORTED),
+        _ => Err(Sw::WRONG_CLASS),
     }
 }
 

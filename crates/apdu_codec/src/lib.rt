@@ -6,10 +6,12 @@
 
 mod answers;
 mod commands;
+mod laws;
 mod status;
 
 pub use answers::{Answer, AnswerBody};
 pub use commands::{Class, Command, read_command};
+pub use laws::bytes_have_one_meaning;
 pub use status::Sw;
 
 #[cfg(test)]

@@ -86,6 +86,66 @@ fn what_is_no_command_is_refused(rt: HostRuntime) {
     }
 }
 
+// What a class byte is read as, from the first to the last of a row.
+#[derive(Drop)]
+struct ClassRow {
+    first: u8,
+    last: u8,
+    read: Result<(Class, u8), Sw>,
+}
+
+const SECURE_MESSAGING: Sw = Sw(0x6882);
+
+const FURTHER_CHANNEL: Sw = Sw(0x6881);
+
+const UNKNOWN: Sw = Sw(0x6E00);
+
+const fn row(first: u8, last: u8, read: Result<(Class, u8), Sw>) -> ClassRow {
+    ClassRow { first, last, read }
+}
+
+fn class_rows() -> [ClassRow; 20] {
+    [
+        row(0x00, 0x00, Ok((Class::Standard, 0))),
+        row(0x01, 0x01, Ok((Class::Standard, 1))),
+        row(0x02, 0x02, Ok((Class::Standard, 2))),
+        row(0x03, 0x03, Ok((Class::Standard, 3))),
+        row(0x04, 0x0F, Err(SECURE_MESSAGING)),
+        row(0x10, 0x3F, Err(UNKNOWN)),
+        row(0x40, 0x4F, Err(FURTHER_CHANNEL)),
+        row(0x50, 0x5F, Err(UNKNOWN)),
+        row(0x60, 0x6F, Err(SECURE_MESSAGING)),
+        row(0x70, 0x7F, Err(UNKNOWN)),
+        row(0x80, 0x80, Ok((Class::Special, 0))),
+        row(0x81, 0x81, Ok((Class::Special, 1))),
+        row(0x82, 0x82, Ok((Class::Special, 2))),
+        row(0x83, 0x83, Ok((Class::Special, 3))),
+        row(0x84, 0x8F, Err(SECURE_MESSAGING)),
+        row(0x90, 0xBF, Err(UNKNOWN)),
+        row(0xC0, 0xCF, Err(FURTHER_CHANNEL)),
+        row(0xD0, 0xDF, Err(UNKNOWN)),
+        row(0xE0, 0xEF, Err(SECURE_MESSAGING)),
+        row(0xF0, 0xFF, Err(UNKNOWN)),
+    ]
+}
+
+#[test]
+fn every_class_byte_is_read_by_the_list(rt: HostRuntime) {
+    let mut next: u16 = 0;
+    for row in &class_rows() {
+        assert_eq!(rt; next, u16::from(row.first));
+        for byte in row.first..=row.last {
+            let read = match read_command(&[byte, 0xF2, 0x00, 0x0C]) {
+                Ok(command) => Ok((command.class, command.channel)),
+                Err(sw) => Err(sw),
+            };
+            assert_eq!(rt; read, row.read, "class byte {byte:02X}");
+        }
+        next = u16::from(row.last) + 1;
+    }
+    assert_eq!(rt; next, 0x100);
+}
+
 #[test]
 fn status_words_have_their_bytes(rt: HostRuntime) {
     assert_eq!(rt; Sw::OK.to_bytes(), [0x90, 0x00]);

@@ -15,3 +15,6 @@ pub use laws::changes_are_local;
 pub use pin::{PinRow, Puk};
 pub use row::FileRow;
 pub use std::alloc::AllocError as NoMemory;
+
+#[cfg(test)]
+mod tests;

@@ -1,1 +1,2 @@
 pub mod EachTwo
+pub mod FirstOf

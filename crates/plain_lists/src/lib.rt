@@ -6,3 +6,6 @@ mod short_list;
 
 pub use long_list::LongList;
 pub use short_list::ShortList;
+
+#[cfg(test)]
+mod tests;

@@ -56,7 +56,7 @@ impl<T: Drop> LongList<T> {
         Ok(())
     }
 
-    /// What gives the memory for more elements.
+    /// What gives the memory for more elements. A `Global` has nothing to tell apart.
     #[inline]
     pub fn allocator(&self) -> Global {
         *self.elements.allocator()

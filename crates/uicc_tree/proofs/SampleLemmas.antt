@@ -1,4 +1,4 @@
-use Rattle.std.proofs.Common.{◌≡◌, ℕ, ◌≤◌, List, ◌∷◌, [], length, get_or, refl, ap, inl, inr, lit≤, arith}
+use Rattle.std.proofs.Common.{◌≡◌, ℕ, List, ◌∷◌, [], length, get_or, refl, ap, inl, inr, lit≤, arith}
 use Rattle.file_rows.specs.Change.{Fits}
 use Rattle.file_rows.specs.Content.{AreFiles, IsValid}
 use Rattle.file_rows.specs.declared.change.Change.TheVariants.{WriteRange, FileGone}

@@ -1,0 +1,48 @@
+#!/usr/bin/env bash
+# Answers per second and greatest resident memory of `card_run demo` on a script of 20,000 lines: a SELECT and a READ
+# BINARY in turn over the files of the sample card. The time of starting the program on an empty script is taken off,
+# and the same lines read by Python's bytes.fromhex give a measure of the machine.
+set -eu
+top=$(cd "$(dirname "${BASH_SOURCE[0]}")/.." && pwd)
+"$top/card_run" demo </dev/null
+exec python3 - "$top/crates/card_run/out/card_run" <<'PYTHON'
+import os, subprocess, sys, tempfile, time
+
+program = sys.argv[1]
+most = 0
+files = ["2F05", "2FE2", "2F06", "2F00", "2F08"]
+lines = []
+for i in range(10_000):
+    lines.append("port 1: 00A4000C02" + files[i % len(files)])
+    lines.append("port 1: 00B0000000")
+script = tempfile.NamedTemporaryFile("w", suffix=".card", delete=False)
+script.write("\n".join(lines) + "\n")
+script.close()
+
+def run(path):
+    global most
+    before = time.perf_counter()
+    with open(path) as given, open(os.devnull, "w") as out:
+        child = subprocess.Popen([program, "demo"], stdin=given, stdout=out)
+        _, status, used = os.wait4(child.pid, 0)
+    child.returncode = status
+    assert status == 0, status
+    most = max(most, used.ru_maxrss)
+    return time.perf_counter() - before
+
+def decode():
+    before = time.perf_counter()
+    with open(script.name) as given:
+        total = sum(len(bytes.fromhex(line[8:])) for line in given)
+    assert total > 0
+    return time.perf_counter() - before
+
+taken = min(run(script.name) for _ in range(20))
+empty = min(run(os.devnull) for _ in range(20))
+read = min(decode() for _ in range(20))
+os.unlink(script.name)
+net = max(taken - empty, 1e-6)
+print(f"answers per second: {20_000 / net:,.0f} (start of the program taken off), {20_000 / taken:,.0f} with it")
+print(f"time against Python's reading of the same hex: {net / read:.2f}")
+print(f"greatest resident memory: {most / 1024:.1f} MiB")
+PYTHON

@@ -1,0 +1,6 @@
+pub mod Fault
+pub mod Tag
+pub mod Length
+pub mod Parts
+pub mod Tlv
+pub mod Walk

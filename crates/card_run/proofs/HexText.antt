@@ -1,0 +1,49 @@
+use Rattle.std.proofs.Common.{◌≡◌, ℕ, ◌+◌, ◌*◌, ◌/◌, ◌%◌, ◌<◌, List, [], ◌∷◌, ◌++◌, map, length, get_or, refl, sym, arith, append_assoc, zero, suc}
+use Rattle.std.specs.Char.{to_ascii_uppercase}
+use Rattle.std.proofs.lemmas.Bool.{true≢false}
+use Rattle.std.specs.Prelude.{slice_index, Result, Ok, Err, IsOk, OnOk}
+use Rattle.hex.specs.Hex.{encode_lower, encode_upper, encode_with, lower_digits, upper_digits}
+
+-- a digit in upper case
+upper_digit : (n : ℕ) → n < 16 → to_ascii_uppercase (slice_index lower_digits n) ≡ slice_index upper_digits n
+upper_digit zero h = refl
+upper_digit (suc zero) h = refl
+upper_digit (suc (suc zero)) h = refl
+upper_digit (suc (suc (suc zero))) h = refl
+upper_digit (suc (suc (suc (suc zero)))) h = refl
+upper_digit (suc (suc (suc (suc (suc zero))))) h = refl
+upper_digit (suc (suc (suc (suc (suc (suc zero)))))) h = refl
+upper_digit (suc (suc (suc (suc (suc (suc (suc zero))))))) h = refl
+upper_digit (suc (suc (suc (suc (suc (suc (suc (suc zero)))))))) h = refl
+upper_digit (suc (suc (suc (suc (suc (suc (suc (suc (suc zero))))))))) h = refl
+upper_digit (suc (suc (suc (suc (suc (suc (suc (suc (suc (suc zero)))))))))) h = refl
+upper_digit (suc (suc (suc (suc (suc (suc (suc (suc (suc (suc (suc zero))))))))))) h = refl
+upper_digit (suc (suc (suc (suc (suc (suc (suc (suc (suc (suc (suc (suc zero)))))))))))) h = refl
+upper_digit (suc (suc (suc (suc (suc (suc (suc (suc (suc (suc (suc (suc (suc zero))))))))))))) h = refl
+upper_digit (suc (suc (suc (suc (suc (suc (suc (suc (suc (suc (suc (suc (suc (suc zero)))))))))))))) h = refl
+upper_digit (suc (suc (suc (suc (suc (suc (suc (suc (suc (suc (suc (suc (suc (suc (suc zero))))))))))))))) h = refl
+upper_digit (suc (suc (suc (suc (suc (suc (suc (suc (suc (suc (suc (suc (suc (suc (suc (suc n)))))))))))))))) h = absurd (omega arith)
+
+-- the text of bytes in lower case, in upper case
+pub upper-encode_lower : (bytes : List ℕ) → ((i : ℕ) → get_or bytes i 0 < 256) → map to_ascii_uppercase (encode_lower bytes) ≡ encode_upper bytes
+unfolding encode_with
+upper-encode_lower [] fits = refl
+upper-encode_lower (b ∷ bytes) fits =
+    let small : b < 256 = fits 0 in
+    rw (upper_digit (b / 16) (omega arith), upper_digit (b % 16) (omega arith), upper-encode_lower bytes (λ i. fits (suc i))) refl
+
+pub encode_upper-append : (xs ys : List ℕ) → encode_upper (xs ++ ys) ≡ encode_upper xs ++ encode_upper ys
+unfolding encode_with
+encode_upper-append [] ys = refl
+encode_upper-append (x ∷ xs) ys = rw (encode_upper-append xs ys) refl
+
+-- what holds on an `Ok`
+pub of_ok : {T E : Type 0} (r : Result T E) (P : Type 0) → IsOk r → OnOk r P → P
+of_ok (Ok x) P ok p = p
+of_ok (Err e) P ok p = absurd (true≢false (sym ok))
+
+-- the pieces of a line, one written after another
+pub pieces : (text start digits space body status_word feed a b c d e f : List ℕ) → a ≡ text ++ start → b ≡ a ++ digits → c ≡ b ++ space → d ≡ c ++ encode_upper body → e ≡ d ++ encode_upper status_word → f ≡ e ++ feed
+    → f ≡ text ++ ((((start ++ digits) ++ space) ++ encode_upper (body ++ status_word)) ++ feed)
+pieces text start digits space body status_word feed a b c d e f ha hb hc hd he hf =
+    rw (hf, he, hd, hc, hb, ha, encode_upper-append) (simp append_assoc)

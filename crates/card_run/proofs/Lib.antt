@@ -1,0 +1,11 @@
+pub mod DemoLemmas
+pub mod HexText
+pub mod LoadLemmas
+pub mod ScriptFaults
+pub mod ScriptFeeds
+pub mod ScriptPlaces
+pub mod ScriptReadings
+pub mod ScriptStatements
+pub mod ScriptText
+pub mod ScriptWords
+pub mod WordsLemmas

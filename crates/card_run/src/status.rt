@@ -1,0 +1,75 @@
+//! How the program ends.
+use crate::script::ScriptKind;
+use port_io::Failed;
+use std::alloc::AllocError;
+use std::fmt;
+
+/// How a run of the program ends.
+#[derive(Clone, Copy, Debug, PartialEq, Eq)]
+pub enum Status {
+    /// The input was read to its end, all statements were answered, all text was written.
+    Done,
+    /// The words are no form of the program's.
+    Usage,
+    /// This line of the script, counted from 1, is the first with such a fault.
+    Script { line: u32, kind: ScriptKind },
+    /// The script could not be read.
+    ReadFault,
+    /// The text could not be written; a front of it was.
+    WriteFault,
+    /// There was no memory; a front of the text was written.
+    NoMemory,
+}
+
+impl Status {
+    /// The number with which the process ends.
+    pub fn number(self) -> u8 {
+        match self {
+            Status::Done => 0,
+            Status::Usage => 2,
+            Status::Script { .. } => 3,
+            Status::ReadFault => 4,
+            Status::WriteFault => 5,
+            Status::NoMemory => 8,
+        }
+    }
+}
+
+/// What standard error is told; nothing where all went well.
+impl fmt::Display for Status {
+    fn fmt<W: fmt::Write>(&self, f: &mut fmt::Formatter<W>) -> fmt::Result {
+        match self {
+            Status::Done => Ok(()),
+            Status::Usage => f.write_str(
+                "usage: card_run new, list, alone, ports, demo, sample, audit",
+            ),
+            Status::Script { line, kind } => write!(f, "script: line {line}: {kind}"),
+            Status::ReadFault => f.write_str("read fault"),
+            Status::WriteFault => f.write_str("write fault"),
+            Status::NoMemory => f.write_str("no memory"),
+        }
+    }
+}
+
+impl From<AllocError> for Status {
+    ghost use Rattle.std.specs.Prelude.{◌≡◌};
+    ghost use Rattle.card_run.specs.declared.status.Status.TheVariants.{NoMemory};
+
+    ghost from_gives = { λ _ status. status ≡ NoMemory };
+
+    fn from(_error: AllocError) -> Status {
+        Status::NoMemory
+    }
+}
+
+/// A sink failed.
+impl From<Failed> for Status {
+    ghost use Rattle.std.specs.Prelude.{◌≡◌};
+    ghost use Rattle.card_run.specs.declared.status.Status.TheVariants.{WriteFault};
+
+    ghost from_gives = { λ _ status. status ≡ WriteFault };
+
+    fn from(_failed: Failed) -> Status {
+        Status::WriteFault
+    }
+}

@@ -1,0 +1,151 @@
+//! What no clause says: the worked example, the texts of the statuses, and sources and sinks that fail.
+ghost use Rattle.std.specs.Prelude.{Some};
+
+use super::*;
+use crate::demo::demo_main;
+use crate::script::ScriptKind;
+use port_io::{Failed, MemorySink, MemorySource, Sink};
+use std::alloc::{AllocError, Global};
+use std::test::Fail;
+
+const WORKED: &str =
+    "port 1: 00A4000C022FE2\nport 1: 00B000000A\nport 1: 00B000000B\nport 1: 00B0000A01\nport 1: 0084000008\n";
+
+const ANSWERS: &str = "1.1 9000\n1.2 989400000000000000F19000\n1.3 6C0A\n1.4 6B00\n1.5 6D00\n";
+
+// The words, as the program is given them.
+fn words_of(alloc: Global, words: &[&str]) -> Result<Vec<String>, AllocError> {
+    let mut all = Vec::new(alloc);
+    for word in words {
+        all.push(String::from_str(alloc, word)?)?;
+    }
+    Ok(all)
+}
+
+// How the program ends on a script in memory, and what it wrote. One call of the source and one of the sink fail.
+fn run(
+    alloc: Global,
+    words: &[&str],
+    script: &str,
+    failing: (u64, u64),
+    room: usize,
+) -> Result<(Status, Vec<u8>), AllocError> {
+    let words = words_of(alloc, words)?;
+    let bytes = Vec::from_slice(alloc, script.as_bytes())?;
+    let mut source = MemorySource::new(bytes, Vec::from_slice(alloc, &[failing.0])?);
+    let mut sink = MemorySink::new(alloc, room, Vec::from_slice(alloc, &[failing.1])?)?;
+    let status = demo_main(alloc, words.as_slice(), &mut source, &mut sink);
+    Ok((status, sink.into_bytes()))
+}
+
+#[test]
+fn the_sample_card_answers_as_in_the_worked_example(rt: HostRuntime) -> Result<(), Fail> {
+    let (status, text) = run(rt.alloc(), &["demo"], WORKED, (0, 0), 1_000)?;
+    assert_eq!(rt; status, Status::Done);
+    assert_eq!(rt; text.as_slice(), ANSWERS.as_bytes());
+    Ok(())
+}
+
+#[test]
+fn other_words_are_usage_and_read_nothing(rt: HostRuntime) -> Result<(), Fail> {
+    let rows: [&[&str]; 5] = [&[], &["demo", "demo"], &["new"], &["Demo"], &["--help"]];
+    for words in rows {
+        let (status, text) = run(rt.alloc(), words, "port 3:\n", (1, 1), 10)?;
+        assert_eq!(rt; status, Status::Usage, "at {words:?}");
+        assert!(rt; text.is_empty());
+    }
+    Ok(())
+}
+
+#[test]
+fn a_faulty_script_is_told_and_writes_nothing(rt: HostRuntime) -> Result<(), Fail> {
+    let kind = ScriptKind::Grammar;
+    let rows = [
+        ("port 1: 0G\n", 1),
+        ("port 1: 00A4000C022FE2\n\nport 1: 000\nport 2:\n", 3),
+    ];
+    for (script, line) in rows {
+        let (status, text) = run(rt.alloc(), &["demo"], script, (0, 0), 100)?;
+        assert_eq!(rt; status, Status::Script { line, kind });
+        assert!(rt; text.is_empty());
+    }
+    Ok(())
+}
+
+#[test]
+fn faults_end_the_run(rt: HostRuntime) -> Result<(), Fail> {
+    let rows = [
+        ((1, 0), 1_000, Status::ReadFault, ""),
+        ((2, 0), 1_000, Status::ReadFault, ""),
+        ((3, 0), 1_000, Status::Done, ANSWERS),
+        ((0, 1), 1_000, Status::WriteFault, ""),
+        ((0, 0), 0, Status::WriteFault, ""),
+        ((0, 0), 12, Status::WriteFault, "1.1 9000\n1.2"),
+    ];
+    for (failing, room, ends, written) in rows {
+        let (status, text) = run(rt.alloc(), &["demo"], WORKED, failing, room)?;
+        assert_eq!(rt; status, ends);
+        assert_eq!(rt; text.as_slice(), written.as_bytes());
+    }
+    Ok(())
+}
+
+/// Takes one byte of each piece.
+#[derive(Drop)]
+struct OneByOne {
+    sink: MemorySink,
+}
+
+impl Sink for OneByOne {
+    ghost written = { λ s. Some s.sink.written };
+
+    ghost faults = { λ s. s.sink.calls.faults };
+
+    fn put(&mut self, piece: &[u8]) -> Result<usize, Failed> {
+        self.sink.put(&piece[..piece.len().min(1)])
+    }
+}
+
+#[test]
+fn a_sink_that_takes_one_byte_at_a_time_gets_it_all(rt: HostRuntime) -> Result<(), Fail> {
+    let alloc = rt.alloc();
+    let words = words_of(alloc, &["demo"])?;
+    let bytes = Vec::from_slice(alloc, WORKED.as_bytes())?;
+    let mut source = MemorySource::new(bytes, Vec::new(alloc));
+    let mut out = OneByOne {
+        sink: MemorySink::new(alloc, 1_000, Vec::new(alloc))?,
+    };
+    assert_eq!(rt;
+        demo_main(alloc, words.as_slice(), &mut source, &mut out),
+        Status::Done
+    );
+    assert_eq!(rt; out.sink.bytes(), ANSWERS.as_bytes());
+    Ok(())
+}
+
+#[test]
+fn each_status_has_its_number_and_text(rt: HostRuntime) -> Result<(), Fail> {
+    let kind = ScriptKind::TooMany;
+    let rows = [
+        (Status::Done, 0, ""),
+        (
+            Status::Usage,
+            2,
+            "usage: card_run new, list, alone, ports, demo, sample, audit",
+        ),
+        (
+            Status::Script { line: 7, kind },
+            3,
+            "script: line 7: too many",
+        ),
+        (Status::ReadFault, 4, "read fault"),
+        (Status::WriteFault, 5, "write fault"),
+        (Status::NoMemory, 8, "no memory"),
+    ];
+    for (status, number, text) in rows {
+        assert_eq!(rt; status.number(), number);
+        let shown = format!(in rt.alloc(); "{status}")?;
+        assert_eq!(rt; shown.as_str(), text);
+    }
+    Ok(())
+}

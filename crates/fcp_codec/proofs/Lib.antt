@@ -1,0 +1,5 @@
+pub mod Taking
+pub mod Answering
+pub mod Listing
+pub mod Joining
+pub mod Again

@@ -1,0 +1,7 @@
+pub mod FileForm
+pub mod RuleRef
+pub mod Values
+pub mod Reading
+pub mod State
+pub mod PinStatus
+pub mod Writing

@@ -1,0 +1,35 @@
+//! Each call once, at types that the crates above use.
+use super::*;
+use arrayvec::ArrayVec;
+use std::test::Fail;
+
+#[test]
+fn a_short_list_holds_what_it_is_given(rt: HostRuntime) -> Result<(), Fail> {
+    let mut path = ShortList::<u16, 4>::new();
+    assert!(rt; path.is_empty());
+    path.push(0x7F10);
+    path.push(0x6F3A);
+    assert_eq!(rt; path.as_slice(), [0x7F10, 0x6F3A].as_slice());
+    assert_eq!(rt; path.len(), 2);
+    assert_eq!(rt; path, ShortList::from_slice(&[0x7F10, 0x6F3A]));
+    assert_ne!(rt; path.copy(), ShortList::from_slice(&[0x7F10]));
+    let elements: ArrayVec<u16, 4> = path.into();
+    let again = ShortList::from(elements);
+    assert_eq!(rt; again.len(), 2);
+    Ok(())
+}
+
+#[test]
+fn a_long_list_grows(rt: HostRuntime) -> Result<(), Fail> {
+    let mut body = LongList::<u8>::new(rt.alloc());
+    for byte in 0..100 {
+        body.push(byte)?;
+    }
+    assert_eq!(rt; body.len(), 100);
+    let other = LongList::<u8>::new(body.allocator());
+    assert_eq!(rt; other.len(), 0);
+    let elements: Vec<u8> = body.into();
+    let again = LongList::from(elements);
+    assert_eq!(rt; again.as_slice().last().copied(), Some(99));
+    Ok(())
+}
