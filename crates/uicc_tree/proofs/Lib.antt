@@ -1,0 +1,11 @@
+pub mod AddLemmas
+pub mod ApplyLemmas
+pub mod CellLemmas
+pub mod ChangeLemmas
+pub mod FilterLemmas
+pub mod FindLemmas
+pub mod MakeLemmas
+pub mod PlaceLemmas
+pub mod RemoveLemmas
+pub mod SlotLemmas
+pub mod TreeLemmas

@@ -1,0 +1,189 @@
+ghost use Rattle.std.specs.Prelude.{◌≡◌, ◌≢◌, ℕ, ◌++◌, ◌∷◌, [], List, Some, None, Option, IsSome, OnOk, IfOk, IfSome, IfNone, ◌⊎◌};
+ghost use Rattle.file_rows.specs.Content.{AreFiles, file_at};
+ghost use Rattle.file_rows.specs.Path.{IsIn, master};
+ghost use Rattle.uicc_tree.specs.Arena.{HasDirectory, StandsIn};
+ghost use Rattle.uicc_tree.specs.Change.{FitsFiles, HasRoom, Outlives, rows_after};
+ghost use Rattle.uicc_tree.specs.Files.{IsLive, IsNodeOf, HasSfi, file_of, path_of, rows_of, application_named};
+
+use crate::arena::Arena;
+use crate::room::Room;
+use file_rows::{Change, FileHead, FileRow, Kind, NoMemory};
+use std::alloc::Global;
+use std::marker::Model;
+use std::mem;
+
+/// The files of a card. A file is named by its node, which stays the same while the file is there.
+#[derive(Debug, Drop)]
+pub struct Tree {
+    arena: Arena,
+    room: Room,
+    // The body of the file for which memory is reserved.
+    spare: Vec<u8>,
+}
+
+impl Model for Tree {
+    ghost use Rattle.uicc_tree.specs.Files.{Files};
+
+    ghost Value = { Files };
+
+    ghost use Rattle.uicc_tree.specs.Arena.{files_of};
+    ghost use Rattle.uicc_tree.specs.Change.{IsKept};
+
+    ghost view = { λ tree. record (files_of tree.arena) { room = tree.room } };
+
+    ghost invariant = { λ tree. IsKept tree.arena tree.spare.items tree.room };
+}
+
+impl Tree {
+    /// The tree of the files of a card. It copies their bodies.
+    pub fn make(alloc: Global, rows: &[FileRow]) -> Result<Tree, NoMemory>
+        requires { AreFiles rows.now ⊎ (rows.now ≡ []) }
+        ensures { IfOk result (λ tree. rows_of tree ≡ rows.now) }
+    {
+        let mut arena = Arena::new(alloc);
+        for row in rows {
+            let directory = arena.directory_of(row.head.path.as_slice());
+            arena.reserve_place(directory)?;
+            let body = Vec::from_slice(alloc, row.body.as_slice())?;
+            arena.place(directory, row.head.copy(), body);
+        }
+        Ok(Tree {
+            arena,
+            room: Room::Nothing,
+            spare: Vec::new(alloc),
+        })
+    }
+
+    /// The node of the file of this path; the MF's is empty. It looks at the children of each file on the way.
+    pub fn find(&self, path: &[u16]) -> Option<u32>
+        ensures found { IfSome result (IsNodeOf self.now path.now) }
+        ensures none { IfNone result (file_at path.now (rows_of self.now) ≡ None) }
+    {
+        self.arena.find(path)
+    }
+
+    /// The node of the file of this identifier in a directory, unless it is an application. It looks at the
+    /// directory's children.
+    pub fn child(&self, node: u32, id: u16) -> Option<u32>
+        requires { IsLive self.now node }
+        ensures found { IfSome result (IsNodeOf self.now (path_of self.now node ++ id ∷ [])) }
+        ensures no_application { IfSome result (λ child. (file_of self.now child).head.kind ≢ Kind.Application) }
+        ensures none { IfNone result (IfSome (file_at (path_of self.now node ++ id ∷ []) (rows_of self.now))
+            (λ row. row.head.kind ≡ Kind.Application)) }
+    {
+        let child = self.arena.child_with(node, id)?;
+        if self.arena.head(child).kind == Kind::Application {
+            return None;
+        }
+        Some(child)
+    }
+
+    /// The node of the file of this short file identifier, 1 to 30, in a directory. It looks at the directory's children.
+    pub fn by_sfi(&self, node: u32, sfi: u8) -> Option<u32>
+        requires { IsLive self.now node }
+        ensures found { IfSome result (HasSfi self.now (path_of self.now node) sfi) }
+        ensures none { IfNone result ((file : ℕ) → ¬ HasSfi self.now (path_of self.now node) sfi file) }
+    {
+        self.arena.child_with_sfi(node, sfi)
+    }
+
+    /// The node of the first application, in the order in which they were made, whose name begins so. It looks at the
+    /// kind of each file.
+    pub fn by_name(&self, front: &[u8]) -> Option<u32>
+        ensures found { IfSome result (λ node. IsLive self.now node
+            × (application_named front.now (rows_of self.now) ≡ Some (file_of self.now node))) }
+        ensures none { IfNone result (application_named front.now (rows_of self.now) ≡ None) }
+    {
+        self.arena.application_named(front)
+    }
+
+    /// What is known of a file beside its body.
+    pub fn head(&self, node: u32) -> &FileHead
+        requires { IsLive self.now node }
+        ensures { result.now ≡ (file_of self.now node).head }
+    {
+        self.arena.head(node)
+    }
+
+    /// The body of a file.
+    pub fn bytes(&self, node: u32) -> &[u8]
+        requires { IsLive self.now node }
+        ensures { result.now ≡ (file_of self.now node).body }
+    {
+        self.arena.bytes(node)
+    }
+
+    /// The node of the file in which this one stands; the MF stands in none. It goes down from the MF.
+    pub fn parent(&self, node: u32) -> Option<u32>
+        requires { IsLive self.now node }
+        ensures found { IfSome result (λ above. IsLive self.now above × IsIn (path_of self.now above) (path_of self.now node)) }
+        ensures none { IfNone result (path_of self.now node ≡ master) }
+    {
+        self.arena.parent(node)
+    }
+
+    /// Takes the memory that `apply` needs for this change. Nothing else changes, and memory that was reserved for
+    /// another change is given back.
+    pub fn reserve(&mut self, change: &Change) -> Result<(), NoMemory>
+        requires { FitsFiles self.old change.now }
+        ensures nodes { self.new.nodes ≡ self.old.nodes }
+        ensures cells { self.new.cells ≡ self.old.cells }
+        ensures room { OnOk result (HasRoom self.new change.now) }
+    {
+        match change {
+            Change::FileAdd { head } => self.reserve_file(head),
+            Change::FileSize { path, size } => self.reserve_size(path.as_slice(), *size),
+            _ => Ok(()),
+        }
+    }
+
+    fn reserve_file(&mut self, head: &FileHead) -> Result<(), NoMemory>
+        requires { HasDirectory self.old head.now.path }
+        ensures nodes { self.new.nodes ≡ self.old.nodes }
+        ensures cells { self.new.cells ≡ self.old.cells }
+        ensures room { OnOk result ((directory : Option ℕ) × StandsIn self.new head.now.path directory
+            × (self.new.room ≡ Room.Add directory head.now.size)) }
+    {
+        self.room = Room::Nothing;
+        let directory = self.arena.directory_of(head.path.as_slice());
+        self.arena.reserve_place(directory)?;
+        self.spare = vec![in *self.spare.allocator(); 0xFF; usize::from(head.size)]?;
+        self.room = Room::Add {
+            directory,
+            size: head.size,
+        };
+        Ok(())
+    }
+
+    fn reserve_size(&mut self, path: &[u16], size: u16) -> Result<(), NoMemory>
+        requires { IsSome (file_at path.now (rows_of self.old)) }
+        ensures nodes { self.new.nodes ≡ self.old.nodes }
+        ensures cells { self.new.cells ≡ self.old.cells }
+        ensures room { OnOk result ((node : ℕ) × IsLive self.new node × (path_of self.new node ≡ path.now)
+            × (self.new.room ≡ Room.Size node size)) }
+    {
+        self.room = Room::Nothing;
+        if let Some(node) = self.arena.find(path) {
+            self.arena.reserve_body(node, size)?;
+            self.room = Room::Size { node, size };
+        }
+        Ok(())
+    }
+
+    /// Makes a change for which memory is reserved, and takes none itself. A write moves the bytes written alone, and a
+    /// new record of a cyclic file moves that file's body. A file that is added takes a node that was freed, where there
+    /// is one. A file that goes costs a look at each file.
+    pub fn apply(&mut self, change: &Change)
+        requires fits { FitsFiles self.old change.now }
+        requires room { HasRoom self.old change.now }
+        ensures rows { rows_of self.new ≡ rows_after (rows_of self.old) change.now }
+        ensures stay { (node : ℕ) → IsLive self.old node → Outlives (path_of self.old node) change.now
+            → IsLive self.new node × (path_of self.new node ≡ path_of self.old node) }
+        ensures room { self.new.room ≡ Room.Nothing }
+    {
+        let alloc = *self.spare.allocator();
+        let spare = mem::replace(&mut self.spare, Vec::new(alloc));
+        self.arena.change(change, self.room, spare);
+        self.room = Room::Nothing;
+    }
+}
