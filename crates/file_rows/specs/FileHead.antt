@@ -13,6 +13,14 @@ holds_files Transparent = false
 holds_files Linear = false
 holds_files Cyclic = false
 
+abbrev pub is_application : Kind → Bool
+is_application Master = false
+is_application Directory = false
+is_application Application = true
+is_application Transparent = false
+is_application Linear = false
+is_application Cyclic = false
+
 -- a file that holds files has no size, no records and no SFI
 pub record IsBare (head : FileHead) : Type 0 where
   pub size : head.size ≡ 0

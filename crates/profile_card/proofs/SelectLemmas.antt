@@ -2,13 +2,13 @@ use Rattle.std.proofs.Common.{◌≡◌, ℕ, Bool, true, false, cond, not, ◌�
 use Rattle.std.proofs.lemmas.Bool.{ne_eqb, true≢false}
 use Rattle.std.specs.Option.{IfSome, option_copied, option_or}
 use Rattle.file_rows.specs.Content.{file_at}
-use Rattle.file_rows.specs.FileHead.{holds_files}
+use Rattle.file_rows.specs.FileHead.{holds_files, is_application}
 use Rattle.file_rows.specs.Path.{same_path}
 use Rattle.file_rows.specs.declared.head.Kind.{Kind}
 use Rattle.file_rows.specs.declared.head.Kind.TheVariants.{Master, Directory, Application, Transparent, Linear, Cyclic}
 use Rattle.file_rows.specs.declared.row.FileRow.{FileRow}
 use Rattle.profile_card.specs.Flat.{AreFlat, IsFlat}
-use Rattle.profile_card.specs.Select.{found_by_id, is_application, only}
+use Rattle.profile_card.specs.Select.{found_by_id, only}
 
 no_application : (kind : Kind) → (kind ≡ Master) ⊎ (holds_files kind ≡ false) → not (is_application kind) ≡ true
 no_application Master h = refl

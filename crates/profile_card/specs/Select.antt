@@ -5,11 +5,9 @@ use Rattle.apdu_codec.specs.declared.answers.Answer.{Answer}
 use Rattle.apdu_codec.specs.declared.status.Sw.{Sw}
 use Rattle.apdu_codec.specs.declared.status.TheConstants.Sw.{FILE_NOT_FOUND, OK, SELECTED_DEACTIVATED, SELECTED_TERMINATED}
 use Rattle.file_rows.specs.Content.{file_at}
-use Rattle.file_rows.specs.FileHead.{holds_files}
+use Rattle.file_rows.specs.FileHead.{holds_files, is_application}
 use Rattle.file_rows.specs.Path.{master}
 use Rattle.file_rows.specs.declared.content.Content.{Content}
-use Rattle.file_rows.specs.declared.head.Kind.{Kind}
-use Rattle.file_rows.specs.declared.head.Kind.TheVariants.{Master, Directory, Application, Transparent, Linear, Cyclic}
 use Rattle.file_rows.specs.declared.head.Life.{Life}
 use Rattle.file_rows.specs.declared.head.Life.TheVariants.{Active, Deactivated, Terminated}
 use Rattle.file_rows.specs.declared.row.FileRow.{FileRow}
@@ -30,14 +28,6 @@ id_of path = unwrap_or (last_or None path) 0x3F00
 abbrev pub parent_of : List ℕ → Option (List ℕ)
 parent_of [] = None
 parent_of (id ∷ ids) = Some (take (length ids) (id ∷ ids))
-
-abbrev pub is_application : Kind → Bool
-is_application Master = false
-is_application Directory = false
-is_application Application = true
-is_application Transparent = false
-is_application Linear = false
-is_application Cyclic = false
 
 -- a file in a directory by its identifier, with which no application is found
 abbrev pub child : List FileRow → List ℕ → ℕ → Option FileRow

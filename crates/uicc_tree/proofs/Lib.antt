@@ -7,5 +7,6 @@ pub mod FindLemmas
 pub mod MakeLemmas
 pub mod PlaceLemmas
 pub mod RemoveLemmas
+pub mod SampleLemmas
 pub mod SlotLemmas
 pub mod TreeLemmas

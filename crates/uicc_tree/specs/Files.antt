@@ -1,10 +1,10 @@
-use Rattle.std.specs.Prelude.{ℕ, Bool, true, false, ◌≡◌, ◌≢◌, ◌&&◌, List, [], map, find, nat_eq, Option, Some, None, Contains, slice_index_or}
+use Rattle.std.specs.Prelude.{ℕ, ◌≡◌, ◌≢◌, ◌&&◌, List, [], map, find, nat_eq, Option, Some, None, Contains, slice_index_or}
 use Rattle.std.specs.List.{starts_with}
 use Rattle.file_rows.specs.Content.{file_at}
+use Rattle.file_rows.specs.FileHead.{is_application}
 use Rattle.file_rows.specs.Path.{IsIn}
-use Rattle.file_rows.specs.declared.head.Kind.{Kind}
 use Rattle.file_rows.specs.declared.head.FileHead.{FileHead}
-use Rattle.file_rows.specs.declared.head.Kind.TheVariants.{Master, Directory, Application, Transparent, Linear, Cyclic}
+use Rattle.file_rows.specs.declared.head.Kind.TheVariants.{Transparent}
 use Rattle.file_rows.specs.declared.head.Life.TheVariants.{Terminated}
 use Rattle.file_rows.specs.declared.row.FileRow.{FileRow}
 use Rattle.uicc_tree.specs.declared.room.Room.{Room}
@@ -47,14 +47,6 @@ IsNodeOf tree path node = IsLive tree node × (file_at path (rows_of tree) ≡ S
 abbrev pub HasSfi : Files → List ℕ → ℕ → ℕ → Type 0
 HasSfi tree directory sfi node =
     IsLive tree node × IsIn directory (path_of tree node) × (sfi ≢ 0) × ((file_of tree node).head.sfi ≡ sfi)
-
-abbrev pub is_application : Kind → Bool
-is_application Master = false
-is_application Directory = false
-is_application Application = true
-is_application Transparent = false
-is_application Linear = false
-is_application Cyclic = false
 
 -- the first application, in the order in which they were made, whose name begins so
 abbrev pub application_named : List ℕ → List FileRow → Option FileRow

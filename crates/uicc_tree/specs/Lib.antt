@@ -1,3 +1,4 @@
 pub mod Arena
 pub mod Change
 pub mod Files
+pub mod Sample

@@ -2,8 +2,9 @@ ghost use Rattle.std.specs.Prelude.{◌≡◌, ◌≢◌, ℕ, ◌<◌, List, []
 ghost use Rattle.uicc_tree.specs.Arena.{files_of, children_of, children_at, child_room_of, marks_of, CanStand, HasDirectory, HasNode, HasPlace, IsArena, IsVacant, StandsIn, Stores};
 ghost use Rattle.std.specs.List.{starts_with};
 ghost use Rattle.file_rows.specs.Content.{file_at};
+ghost use Rattle.file_rows.specs.FileHead.{is_application};
 ghost use Rattle.file_rows.specs.Path.{IsIn, master};
-ghost use Rattle.uicc_tree.specs.Files.{IsLive, IsNodeOf, HasSfi, file_of, path_of, rows_of, is_application, application_named};
+ghost use Rattle.uicc_tree.specs.Files.{IsLive, IsNodeOf, HasSfi, file_of, path_of, rows_of, application_named};
 
 use file_rows::{FileHead, Kind};
 use smallvec::SmallVec;

@@ -11,3 +11,6 @@ mod steps;
 mod tree;
 
 pub use tree::Tree;
+
+#[cfg(test)]
+mod tests;

@@ -1,0 +1,3 @@
+pub mod Chan
+pub mod Delivery
+pub mod Session

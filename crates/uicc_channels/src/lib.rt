@@ -1,0 +1,22 @@
+//! The session of a card: its logical channels (ETSI TS 102 221), what waits on them, the verified PINs and the
+//! REFRESH state (ETSI TS 102 223).
+//!
+//! Nothing here takes memory.
+#![tactic(auto)]
+
+mod chan;
+mod decided;
+mod delivery;
+mod laws;
+mod session;
+
+pub use chan::{Chan, Pending};
+pub use decided::Decided;
+pub use delivery::{deliver, delivery_answer};
+pub use laws::{
+    answers_stay_on_their_channel, fresh_sessions_have_their_channels, sessions_suit_their_cards,
+};
+pub use session::{CHANNELS, Channels, Refresh, Session, fresh};
+
+#[cfg(test)]
+mod tests;

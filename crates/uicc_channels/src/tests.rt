@@ -1,0 +1,117 @@
+//! What no clause says: the status words of a delivery as a modem sees them, and each call once.
+ghost use Rattle.std.specs.Prelude.{◌≡◌};
+
+use super::*;
+use apdu_codec::{Class, Command, Sw};
+
+// An answer body of so many bytes, the Le of its command, the status word, and how many of its bytes are given.
+#[derive(Drop)]
+struct DeliveryRow {
+    count: usize,
+    le: Option<u16>,
+    sw: u16,
+    given: usize,
+}
+
+const fn row(count: usize, le: Option<u16>, sw: u16, given: usize) -> DeliveryRow {
+    DeliveryRow {
+        count,
+        le,
+        sw,
+        given,
+    }
+}
+
+fn delivery_rows() -> [DeliveryRow; 11] {
+    [
+        row(1, None, 0x6101, 0),
+        row(34, None, 0x6122, 0),
+        row(255, None, 0x61FF, 0),
+        row(256, None, 0x6100, 0),
+        row(34, Some(256), 0x9000, 34),
+        row(34, Some(34), 0x9000, 34),
+        row(256, Some(256), 0x9000, 256),
+        row(34, Some(33), 0x6C22, 0),
+        row(34, Some(35), 0x6C22, 0),
+        row(1, Some(255), 0x6C01, 0),
+        row(256, Some(255), 0x6C00, 0),
+    ]
+}
+
+#[test]
+fn an_answer_is_delivered_by_its_le(rt: HostRuntime) {
+    let bytes = [0x62; 256];
+    for row in &delivery_rows() {
+        assert!(rt; 1 <= row.count && row.count <= 256 && row.given <= 256);
+        let answer = delivery_answer(row.le, &bytes[..row.count]);
+        assert_eq!(rt;
+            answer.sw,
+            Sw(row.sw),
+            "{} bytes, Le {:?}",
+            row.count,
+            row.le
+        );
+        assert_eq!(rt; answer.body.as_slice(), &bytes[..row.given]);
+    }
+}
+
+// Whether the channel is open and these bytes wait there.
+fn waits(session: &Session, number: u8, bytes: &[u8]) -> bool {
+    match session.channel_at(number) {
+        None => false,
+        Some(chan) => chan.pending.as_slice() == bytes,
+    }
+}
+
+fn status_command(le: Option<u16>) -> Command<'static>
+    ensures { result.channel ≡ 0 }
+{
+    Command {
+        channel: 0,
+        class: Class::Special,
+        ins: 0xF2,
+        p1: 0,
+        p2: 0,
+        body: &[],
+        le,
+    }
+}
+
+#[test]
+fn an_answer_waits_on_its_own_channel(rt: HostRuntime) {
+    let session = fresh(true, Some(1)).with_pending(1, &[0x01]);
+    assert!(rt; session.channel_at(0).is_some());
+    let decided = deliver(&session, &status_command(None), &[0x62, 0x00]);
+    assert_eq!(rt; decided.answer.sw, Sw(0x6102));
+    assert!(rt; decided.change.is_none());
+    assert!(rt; waits(&decided.session, 0, &[0x62, 0x00]));
+    assert!(rt; waits(&decided.session, 1, &[0x01]));
+    let given = deliver(&session, &status_command(Some(2)), &[0x62, 0x00]);
+    assert!(rt; given.session == session);
+}
+
+// Whether the channel is open with the ISD-R selected, and none where it is closed.
+fn isdr_at(session: &Session, number: u8) -> Option<bool> {
+    Some(session.channel_at(number)?.isdr)
+}
+
+#[test]
+fn a_fresh_session_has_channel_0_and_the_kept_one(rt: HostRuntime) {
+    let rows = [
+        (fresh(false, None), [Some(false), None, None, None]),
+        (fresh(true, Some(0)), [Some(true), None, None, None]),
+        (fresh(true, Some(3)), [Some(false), None, None, Some(true)]),
+    ];
+    for (session, open) in &rows {
+        let seen = [
+            isdr_at(session, 0),
+            isdr_at(session, 1),
+            isdr_at(session, 2),
+            isdr_at(session, 3),
+        ];
+        assert_eq!(rt; seen, *open);
+        assert_eq!(rt; session.channels.len(), 4);
+        assert!(rt; isdr_at(session, 4).is_none() && isdr_at(session, 255).is_none());
+        assert!(rt; session.copy() == *session);
+    }
+}
