@@ -8,7 +8,7 @@ use Rattle.file_rows.specs.declared.content.Content.{Content}
 use Rattle.file_rows.specs.declared.head.Kind.{Kind}
 use Rattle.file_rows.specs.declared.head.Kind.TheVariants.{Master}
 use Rattle.file_rows.specs.declared.row.FileRow.{FileRow}
-use Rattle.uicc_channels.specs.Chan.{IsDirectoryIn, Stands, at_isdr, at_master, holding}
+use Rattle.uicc_channels.specs.Chan.{IsDirectoryIn, StandsAmong, at_isdr, at_master, holding}
 use Rattle.uicc_channels.specs.Delivery.{waiting}
 use Rattle.uicc_channels.specs.Session.{Suits, channel_at, fresh_session, reset_session, with_channel}
 use Rattle.uicc_channels.specs.declared.chan.Chan.{Chan}
@@ -77,15 +77,15 @@ IsDirectoryIn-master content valid =
       | inr system ↦ inr (master_is_there content.rows system.files)
     ]
 
-pub Stands-at_master : (content : Content) → IsValid content → Stands content.rows at_master
-Stands-at_master content valid = record { app = tt; dir = IsDirectoryIn-master content valid; file = tt; pointer = inl refl }
+pub StandsAmong-at_master : (content : Content) → IsValid content → StandsAmong content.rows at_master
+StandsAmong-at_master content valid = record { app = tt; dir = IsDirectoryIn-master content valid; file = tt; pointer = inl refl }
 
-pub Stands-at_isdr : (content : Content) → IsValid content → Stands content.rows at_isdr
-Stands-at_isdr content valid = record { app = tt; dir = IsDirectoryIn-master content valid; file = tt; pointer = inl refl }
+pub StandsAmong-at_isdr : (content : Content) → IsValid content → StandsAmong content.rows at_isdr
+StandsAmong-at_isdr content valid = record { app = tt; dir = IsDirectoryIn-master content valid; file = tt; pointer = inl refl }
 
 -- what waits on a channel isn't where it stands
-pub Stands-holding : (rows : List FileRow) (chan : Chan) (body : List ℕ) → Stands rows chan → Stands rows (holding body chan)
-Stands-holding rows chan body stands = record { app = stands.app; dir = stands.dir; file = stands.file; pointer = stands.pointer }
+pub StandsAmong-holding : (rows : List FileRow) (chan : Chan) (body : List ℕ) → StandsAmong rows chan → StandsAmong rows (holding body chan)
+StandsAmong-holding rows chan body stands = record { app = stands.app; dir = stands.dir; file = stands.file; pointer = stands.pointer }
 
 -- no channel of closed ones is open
 closed_ones : (count number : ℕ) → get_or {A = Option Chan} (replicate count None) number None ≡ None
@@ -113,7 +113,7 @@ channel_at-fresh_closed refresh (Some kept) number other apart =
     ∙ closed_after_reset refresh number other
 
 -- what comes into a place stands there, and no channel is past the places
-stands_at : (session : Session) (rows : List FileRow) (number : ℕ) (place : Option Chan) → IfSome place (Stands rows) → IfSome (channel_at (with_channel session number place) number) (Stands rows)
+stands_at : (session : Session) (rows : List FileRow) (number : ℕ) (place : Option Chan) → IfSome place (StandsAmong rows) → IfSome (channel_at (with_channel session number place) number) (StandsAmong rows)
 stands_at session rows number place stands =
     elim (cases_lt number (length session.channels)) [
       | inl within ↦ rw (get_or-set_same session.channels number place None within) stands
@@ -121,7 +121,7 @@ stands_at session rows number place stands =
     ]
 
 -- a session goes on to suit with a channel opened, moved or closed
-pub Suits-with_channel : (session : Session) (rows : List FileRow) (number : ℕ) (place : Option Chan) → Suits session rows → IfSome place (Stands rows) → (number ≡ 0 → IsSome place) → Suits (with_channel session number place) rows
+pub Suits-with_channel : (session : Session) (rows : List FileRow) (number : ℕ) (place : Option Chan) → Suits session rows → IfSome place (StandsAmong rows) → (number ≡ 0 → IsSome place) → Suits (with_channel session number place) rows
 Suits-with_channel session rows number place suits stands is_open =
     record {
       places = length-set session.channels number place ∙ suits.places;
@@ -138,8 +138,8 @@ Suits-with_channel session rows number place suits stands is_open =
     }
 
 -- after a reset the basic channel alone is open
-stand_after_reset : (content : Content) (refresh : Bool) → IsValid content → (number : ℕ) → IfSome (channel_at (reset_session refresh) number) (Stands content.rows)
-stand_after_reset content refresh valid zero = Stands-at_master content valid
+stand_after_reset : (content : Content) (refresh : Bool) → IsValid content → (number : ℕ) → IfSome (channel_at (reset_session refresh) number) (StandsAmong content.rows)
+stand_after_reset content refresh valid zero = StandsAmong-at_master content valid
 stand_after_reset content refresh valid (suc number) = rw (closed_ones (CHANNELS - 1) number) tt
 
 -- nothing is verified, and the basic channel stands at the MF
@@ -150,12 +150,12 @@ Suits-reset_session content refresh valid =
 pub Suits-fresh_session : (content : Content) (refresh : Bool) (kept : Option ℕ) → IsValid content → Suits (fresh_session refresh kept) content.rows
 Suits-fresh_session content refresh None valid = Suits-reset_session content refresh valid
 Suits-fresh_session content refresh (Some kept) valid =
-    Suits-with_channel (reset_session refresh) content.rows kept (Some at_isdr) (Suits-reset_session content refresh valid) (Stands-at_isdr content valid) (λ e. refl)
+    Suits-with_channel (reset_session refresh) content.rows kept (Some at_isdr) (Suits-reset_session content refresh valid) (StandsAmong-at_isdr content valid) (λ e. refl)
 
 -- the place of a channel with other bytes waiting
-stands_on : (rows : List FileRow) (place : Option Chan) (body : List ℕ) → IfSome place (Stands rows) → IfSome (option_map (holding body) place) (Stands rows)
+stands_on : (rows : List FileRow) (place : Option Chan) (body : List ℕ) → IfSome place (StandsAmong rows) → IfSome (option_map (holding body) place) (StandsAmong rows)
 stands_on rows None body stands = tt
-stands_on rows (Some chan) body stands = Stands-holding rows chan body stands
+stands_on rows (Some chan) body stands = StandsAmong-holding rows chan body stands
 
 stays_open : (place : Option Chan) (body : List ℕ) → IsSome place → IsSome (option_map (holding body) place)
 stays_open None body is_open = is_open

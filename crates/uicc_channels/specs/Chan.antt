@@ -28,7 +28,7 @@ IsDirectoryIn rows dir =
     ((rows ≡ []) × (dir ≡ master)) ⊎ IsSomeAnd (file_at dir rows) (λ row. IsTrue (holds_files row.head.kind))
 
 -- what a channel names is among a card's files: an application, a directory, an EF and a record of it
-pub record Stands (rows : List FileRow) (chan : Chan) : Type 0 where
+pub record StandsAmong (rows : List FileRow) (chan : Chan) : Type 0 where
   pub app : IfSome chan.app (λ path. IsSomeAnd (file_at path rows) (λ row. row.head.kind ≡ Application))
   pub dir : IsDirectoryIn rows chan.dir
   pub file : IfSome chan.file (λ path. IsSomeAnd (file_at path rows) (λ row. holds_files row.head.kind ≡ false))

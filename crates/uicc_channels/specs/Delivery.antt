@@ -1,23 +1,11 @@
-use Rattle.std.specs.Prelude.{ℕ, ◌+◌, ◌%◌, ◌==◌, ◌||◌, List, [], length, Option, Some, None, if◌then◌else◌}
+use Rattle.std.specs.Prelude.{ℕ, ◌==◌, ◌||◌, List, length, Option, Some, None, if◌then◌else◌}
 use Rattle.apdu_codec.specs.Command.{Spoken}
 use Rattle.apdu_codec.specs.declared.answers.Answer.{Answer}
-use Rattle.apdu_codec.specs.declared.status.Sw.{Sw}
 use Rattle.apdu_codec.specs.declared.status.TheConstants.Sw.{OK}
+use Rattle.uicc_channels.specs.Answer.{bytes_waiting, status, wrong_le}
 use Rattle.uicc_channels.specs.Session.{with_pending}
 use Rattle.uicc_channels.specs.declared.decided.Decided.{Decided}
 use Rattle.uicc_channels.specs.declared.session.Session.{Session}
-
--- a status word alone
-abbrev pub status : Sw → Answer
-status sw = record { body = []; sw = sw }
-
--- `61XX`: this many bytes wait, of which 256 is written as 00
-abbrev pub bytes_waiting : ℕ → Sw
-bytes_waiting count = record { 0 = 0x6100 + count % 256 }
-
--- `6CXX`: this many bytes can be had, of which 256 is written as 00
-abbrev pub wrong_le : ℕ → Sw
-wrong_le count = record { 0 = 0x6C00 + count % 256 }
 
 -- how an answer body is answered, by the Le: an Le of 00, which is 256, takes a body of any length
 abbrev pub answered : Option ℕ → List ℕ → Answer

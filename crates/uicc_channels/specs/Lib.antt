@@ -1,3 +1,4 @@
+pub mod Answer
 pub mod Chan
 pub mod Delivery
 pub mod Session

@@ -1,6 +1,6 @@
 use Rattle.std.specs.Prelude.{ℕ, ◌-◌, ◌≡◌, Bool, List, ◌∷◌, length, replicate, slice_index_or, slice_set, Option, Some, None, IfSome, IsSome, option_map, if◌then◌else◌}
 use Rattle.file_rows.specs.declared.row.FileRow.{FileRow}
-use Rattle.uicc_channels.specs.Chan.{Stands, at_isdr, at_master, holding}
+use Rattle.uicc_channels.specs.Chan.{StandsAmong, at_isdr, at_master, holding}
 use Rattle.uicc_channels.specs.declared.chan.Chan.{Chan}
 use Rattle.uicc_channels.specs.declared.session.Refresh.TheVariants.{Announced, Quiet}
 use Rattle.uicc_channels.specs.declared.session.Session.{Session}
@@ -41,4 +41,4 @@ fresh_session refresh (Some kept) = with_channel (reset_session refresh) kept (S
 pub record Suits (session : Session) (rows : List FileRow) : Type 0 where
   pub places : length session.channels ≡ CHANNELS
   pub basic : IsOpen session 0
-  pub each : (number : ℕ) → IfSome (channel_at session number) (Stands rows)
+  pub each : (number : ℕ) → IfSome (channel_at session number) (StandsAmong rows)

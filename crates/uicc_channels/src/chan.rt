@@ -54,11 +54,7 @@ impl Chan {
     {
         Chan {
             isdr: true,
-            app: None,
-            dir: Path::new(),
-            file: None,
-            pointer: 0,
-            pending: Pending::new(),
+            ..Chan::at_master()
         }
     }
 

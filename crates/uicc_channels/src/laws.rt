@@ -3,7 +3,7 @@ ghost use Rattle.apdu_codec.specs.Command.{Spoken};
 ghost use Rattle.file_rows.specs.Content.{IsValid};
 ghost use Rattle.file_rows.specs.declared.content.Content.{Content};
 ghost use Rattle.file_rows.specs.declared.row.FileRow.{FileRow};
-ghost use Rattle.uicc_channels.specs.Chan.{Stands, at_isdr, at_master, holding};
+ghost use Rattle.uicc_channels.specs.Chan.{StandsAmong, at_isdr, at_master, holding};
 ghost use Rattle.uicc_channels.specs.Delivery.{delivered};
 ghost use Rattle.uicc_channels.specs.Session.{Suits, channel_at, fresh_session, with_channel};
 ghost use Rattle.uicc_channels.specs.declared.chan.Chan.{Chan};
@@ -46,7 +46,7 @@ pub fn sessions_suit_their_cards()
     ensures delivered { (session : Session) (rows : List FileRow) (c : Spoken) (body : List ℕ) → Suits session rows
         → Suits (delivered session c body).session rows }
     ensures opened { (session : Session) (rows : List FileRow) (number : ℕ) (chan : Chan) → Suits session rows
-        → Stands rows chan → Suits (with_channel session number (Some chan)) rows }
+        → StandsAmong rows chan → Suits (with_channel session number (Some chan)) rows }
     ensures closed { (session : Session) (rows : List FileRow) (number : ℕ) → Suits session rows
         → number ≢ 0 → Suits (with_channel session number None) rows }
 {}

@@ -52,7 +52,7 @@ fn push_copies(channels: &mut Channels, places: &[Option<Chan>])
 
 impl Session {
     // The same session over other channels.
-    fn over(&self, channels: Channels) -> Self
+    fn with_channels(&self, channels: Channels) -> Self
         ensures { result ≡ record self.now { channels = channels } }
     {
         Session {
@@ -68,7 +68,7 @@ impl Session {
     {
         let mut channels = Channels::new();
         push_copies(&mut channels, self.channels.as_slice());
-        self.over(channels)
+        self.with_channels(channels)
     }
 
     /// The channel of that number, where it is open.
@@ -90,7 +90,7 @@ impl Session {
         push_copies(&mut channels, &places[..number]);
         channels.push(channel);
         push_copies(&mut channels, &places[number + 1..]);
-        self.over(channels)
+        self.with_channels(channels)
     }
 
     /// The same session once more, with these bytes waiting on an open channel in place of what waited there.
@@ -100,10 +100,8 @@ impl Session {
         requires fits { length bytes.now ≤ 256 }
         ensures { result ≡ with_pending self.now number bytes.now }
     {
-        match self.channel_at(number) {
-            None => unreachable!(),
-            Some(chan) => self.with_channel(number, Some(chan.with_pending(bytes))),
-        }
+        let waiting = self.channel_at(number).map(|chan| chan.with_pending(bytes));
+        self.with_channel(number, waiting)
     }
 }
 
