@@ -1,4 +1,6 @@
 pub mod Answer
 pub mod Chan
 pub mod Delivery
+pub mod Needs
+pub mod Row
 pub mod Session

@@ -1,0 +1,44 @@
+use Rattle.std.specs.Prelude.{Bool, true, List, [], ◌∷◌, Option, Some, None, if◌then◌else◌}
+use Rattle.apdu_codec.specs.declared.status.Sw.{Sw}
+use Rattle.apdu_codec.specs.declared.status.TheConstants.Sw.{CHANNEL_NOT_SUPPORTED, INCOMPATIBLE_STRUCTURE, SECURITY_NOT_SATISFIED, WRONG_CLASS, WRONG_INSTRUCTION, WRONG_LENGTH, WRONG_P1_P2}
+
+-- What a command needs, each either met or told by the status word that refuses it (ETSI TS 102 221, status conditions).
+pub record Needs : Type 0 where
+  -- its channel is open
+  pub channel : Bool
+  -- the card knows its instruction
+  pub instruction : Bool
+  -- its class is the instruction's
+  pub class : Bool
+  -- P1 and P2 are among those of the instruction
+  pub parameters : Bool
+  -- the body and Le are there, or left out, as the instruction wants
+  pub lengths : Bool
+  -- the file that it works on is there
+  pub file : Option Sw
+  -- it works on files of this kind
+  pub kind : Bool
+  -- the file is neither terminated nor deactivated
+  pub life : Option Sw
+  -- the access rules allow it
+  pub access : Bool
+  -- what the instruction alone asks
+  pub own : Option Sw
+
+abbrev pub refused_unless : Bool → Sw → Option Sw
+refused_unless met sw = if met then None else Some sw
+
+-- the order in which a card refuses
+abbrev pub refusals : Needs → List (Option Sw)
+refusals needs =
+    refused_unless needs.channel CHANNEL_NOT_SUPPORTED
+    ∷ refused_unless needs.instruction WRONG_INSTRUCTION
+    ∷ refused_unless needs.class WRONG_CLASS
+    ∷ refused_unless needs.parameters WRONG_P1_P2
+    ∷ refused_unless needs.lengths WRONG_LENGTH
+    ∷ needs.file
+    ∷ refused_unless needs.kind INCOMPATIBLE_STRUCTURE
+    ∷ needs.life
+    ∷ refused_unless needs.access SECURITY_NOT_SATISFIED
+    ∷ needs.own
+    ∷ []

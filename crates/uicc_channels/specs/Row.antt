@@ -1,0 +1,38 @@
+use Rattle.std.specs.Prelude.{◌≡◌, Option, Some, None, Result, Ok, Err}
+use Rattle.apdu_codec.specs.declared.status.Sw.{Sw}
+use Rattle.plain_lists.specs.FirstOf.{first_of}
+use Rattle.uicc_channels.specs.Answer.{status}
+use Rattle.uicc_channels.specs.Needs.{Needs, refusals}
+use Rattle.uicc_channels.specs.declared.decided.Decided.{Decided}
+use Rattle.uicc_channels.specs.declared.session.Session.{Session}
+
+-- one instruction at a card: what it needs, and what it comes to where nothing refuses it
+pub record Row : Type 0 where
+  pub needs : Needs
+  pub done : Decided
+
+-- the first status word of the order with which a card refuses, where there is one
+abbrev pub refusal_of : Row → Option Sw
+refusal_of row = first_of (refusals row.needs)
+
+-- a refused command changes nothing
+abbrev pub refused : Session → Sw → Decided
+refused session sw = record { answer = status sw; session = session; change = None }
+
+abbrev pub refused_or : Option Sw → Session → Decided → Decided
+refused_or None session done = done
+refused_or (Some sw) session done = refused session sw
+
+-- what an instruction comes to, refused or done
+abbrev pub decided : Session → Row → Decided
+decided session row = refused_or (refusal_of row) session row.done
+
+-- what came of an instruction is what its row says
+abbrev pub Follows : Row → Result Decided Sw → Type 0
+Follows row (Ok done) = (refusal_of row ≡ None) × (done ≡ row.done)
+Follows row (Err sw) = refusal_of row ≡ Some sw
+
+-- what is left of a session by an instruction that was refused or done
+abbrev pub settled : Session → Result Decided Sw → Decided
+settled session (Ok done) = done
+settled session (Err sw) = refused session sw

@@ -1,0 +1,47 @@
+use Rattle.std.proofs.Common.{◌≡◌, true, false, Option, Some, None, refl}
+use Rattle.std.specs.Option.{option_or}
+use Rattle.apdu_codec.specs.declared.status.Sw.{Sw}
+use Rattle.apdu_codec.specs.declared.status.TheConstants.Sw.{WRONG_CLASS, WRONG_LENGTH, WRONG_P1_P2}
+use Rattle.plain_lists.specs.FirstOf.{first_of}
+use Rattle.uicc_channels.specs.Needs.{Needs, refusals}
+
+or_none : {A : Type 0} (o : Option A) → option_or o None ≡ o
+or_none None = refl
+or_none (Some x) = refl
+
+-- the needs up to the parameters, where the channel is open and the card knows the instruction
+pub record IsKnown (needs : Needs) : Type 0 where
+  pub channel : needs.channel ≡ true
+  pub instruction : needs.instruction ≡ true
+
+pub class_refused : (needs : Needs) → IsKnown needs → needs.class ≡ false → first_of (refusals needs) ≡ Some WRONG_CLASS
+class_refused needs known class = rw (known.channel, known.instruction, class) refl
+
+pub parameters_refused : (needs : Needs) → IsKnown needs → needs.class ≡ true → needs.parameters ≡ false → first_of (refusals needs) ≡ Some WRONG_P1_P2
+parameters_refused needs known class parameters = rw (known.channel, known.instruction, class, parameters) refl
+
+pub lengths_refused : (needs : Needs) → IsKnown needs → needs.class ≡ true → needs.parameters ≡ true → needs.lengths ≡ false → first_of (refusals needs) ≡ Some WRONG_LENGTH
+lengths_refused needs known class parameters lengths = rw (known.channel, known.instruction, class, parameters, lengths) refl
+
+-- the needs up to the lengths are met
+pub record IsWellFormed (needs : Needs) : Type 0 where
+  pub known : IsKnown needs
+  pub class : needs.class ≡ true
+  pub parameters : needs.parameters ≡ true
+  pub lengths : needs.lengths ≡ true
+
+pub file_refused : (needs : Needs) (sw : Sw) → IsWellFormed needs → needs.file ≡ Some sw → first_of (refusals needs) ≡ Some sw
+file_refused needs sw form file =
+    rw (form.known.channel, form.known.instruction, form.class, form.parameters, form.lengths, file) refl
+
+-- the file is there, and no more is asked of it
+pub record IsReady (needs : Needs) : Type 0 where
+  pub form : IsWellFormed needs
+  pub file : needs.file ≡ None
+  pub kind : needs.kind ≡ true
+  pub life : needs.life ≡ None
+  pub access : needs.access ≡ true
+
+pub own_decides : (needs : Needs) → IsReady needs → first_of (refusals needs) ≡ needs.own
+own_decides needs ready =
+    rw (ready.form.known.channel, ready.form.known.instruction, ready.form.class, ready.form.parameters, ready.form.lengths, ready.file, ready.kind, ready.life, ready.access) (or_none needs.own)

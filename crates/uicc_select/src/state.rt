@@ -1,0 +1,104 @@
+ghost use Rattle.std.specs.Prelude.{◌≡◌, ◌≤◌, ◌==◌, length, Some, None, MatchOption, IfSome};
+ghost use Rattle.apdu_codec.specs.Command.{spoken};
+ghost use Rattle.uicc_channels.specs.Row.{Follows, decided};
+ghost use Rattle.uicc_channels.specs.Session.{IsOpen};
+ghost use Rattle.uicc_tree.specs.Change.{AreRows};
+ghost use Rattle.uicc_tree.specs.Files.{rows_of};
+ghost use Rattle.uicc_select.specs.Status.{are_of_status, is_special, name_object, name_of_application, parameters_of_directory, status_row};
+
+use crate::find::find_path;
+use crate::parameters::{Parameters, parameters_of};
+use crate::refusal::{require, settle};
+use apdu_codec::{Answer, AnswerBody, Class, Command, Sw};
+use file_rows::{Name, PinRow};
+use uicc_channels::{Chan, Decided, Session, deliver};
+use uicc_tree::Tree;
+
+fn is_special(class: Class) -> bool
+    ensures { result ≡ is_special class }
+{
+    matches!(class, Class::Special)
+}
+
+// Whether these P1 and P2 are those of a STATUS.
+fn are_of_status(p1: u8, p2: u8) -> bool
+    ensures { result ≡ are_of_status p1 p2 }
+{
+    matches!(p1, 0x00 | 0x01 | 0x02) && matches!(p2, 0x00 | 0x01 | 0x0C)
+}
+
+// The name of an application as it stands in its control parameters.
+fn name_object(name: &Name) -> AnswerBody
+    ensures value { result ≡ name_object name.now }
+    ensures some { 1 ≤ length result }
+    ensures most { length result ≤ 256 }
+{
+    let mut object = AnswerBody::from_slice(&[0x84, name.len() as u8]);
+    object.extend_from_slice(name.as_slice());
+    object
+}
+
+// The control parameters of the current directory, where there is one.
+fn parameters_of_directory(tree: &Tree, pins: &[PinRow], chan: &Chan) -> Option<Parameters>
+    requires { AreRows (rows_of tree.now) }
+    ensures value { result ≡ parameters_of_directory (rows_of tree.now) pins.now chan.now }
+    ensures some { IfSome result (λ parameters. 1 ≤ length parameters) }
+{
+    let node = tree.find(chan.dir.as_slice())?;
+    Some(parameters_of(tree, pins, node))
+}
+
+// The name of the channel's application, where there is one.
+fn name_of_application(tree: &Tree, chan: &Chan) -> Option<AnswerBody>
+    ensures value { result ≡ name_of_application (rows_of tree.now) chan.now }
+    ensures some { IfSome result (λ name. 1 ≤ length name) }
+    ensures most { IfSome result (λ name. length name ≤ 256) }
+{
+    let node = find_path(tree, &chan.app)?;
+    Some(name_object(&tree.head(node).name))
+}
+
+/// STATUS (ETSI TS 102 221): with P2 `00` the control parameters of the current directory, with `01` the name of the
+/// channel's application as it stands in its control parameters, with `0C` no answer body.
+///
+/// The answer body is delivered by its length and Le. A card without an MF has no current directory (`6A82`), and a
+/// channel may have no application (`6A88`). Nothing but what waits on the channel changes. It takes no memory.
+pub fn status(tree: &Tree, pins: &[PinRow], session: &Session, command: &Command) -> Decided
+    requires files { AreRows (rows_of tree.now) }
+    requires open { IsOpen session.now command.now.channel }
+    ensures { result ≡ decided session.now (status_row (rows_of tree.now) pins.now session.now (spoken command.now)) }
+{
+    settle(session, tell(tree, pins, session, command))
+}
+
+fn tell(tree: &Tree, pins: &[PinRow], session: &Session, command: &Command) -> Result<Decided, Sw>
+    requires files { AreRows (rows_of tree.now) }
+    requires open { IsOpen session.now command.now.channel }
+    ensures { Follows (status_row (rows_of tree.now) pins.now session.now (spoken command.now)) result }
+{
+    require(is_special(command.class), Sw::WRONG_CLASS)?;
+    require(are_of_status(command.p1, command.p2), Sw::WRONG_P1_P2)?;
+    require(command.body.is_empty(), Sw::WRONG_LENGTH)?;
+    let Some(chan) = session.channel_at(command.channel) else {
+        unreachable!()
+    };
+    match command.p2 {
+        0x00 => {
+            let Some(parameters) = parameters_of_directory(tree, pins, chan) else {
+                return Err(Sw::FILE_NOT_FOUND);
+            };
+            Ok(deliver(session, command, parameters.as_slice()))
+        }
+        0x01 => {
+            let Some(name) = name_of_application(tree, chan) else {
+                return Err(Sw::DATA_NOT_FOUND);
+            };
+            Ok(deliver(session, command, name.as_slice()))
+        }
+        _ => Ok(Decided {
+            answer: Answer::status(Sw::OK),
+            session: session.copy(),
+            change: None,
+        }),
+    }
+}
