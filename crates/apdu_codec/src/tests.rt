@@ -173,3 +173,13 @@ fn an_answer_holds_its_bytes(rt: HostRuntime) -> Result<(), Fail> {
     assert_eq!(rt; refused.sw, Sw(0x6B00));
     Ok(())
 }
+
+#[test]
+fn an_answer_begins_without_bytes(rt: HostRuntime) {
+    assert!(rt; AnswerBody::new().is_empty());
+}
+
+#[test]
+fn the_law_of_the_one_meaning_is_callable() {
+    bytes_have_one_meaning();
+}

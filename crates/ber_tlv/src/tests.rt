@@ -60,3 +60,12 @@ fn walks_to_the_first_fault(rt: HostRuntime) {
     assert!(rt; walk.next() == Some(Err(TlvFault::Short)));
     assert!(rt; walk.next().is_none());
 }
+
+#[test]
+fn the_laws_of_the_coding_are_callable() {
+    one_reading();
+    written_is_read();
+    fewest_bytes();
+    written_list_is_read();
+    one_walk();
+}

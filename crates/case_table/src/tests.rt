@@ -51,3 +51,8 @@ fn each_status_word_has_its_free_digits(rt: HostRuntime) {
     }
     assert_eq!(rt; free_digits(0x6101), None);
 }
+
+#[test]
+fn the_law_of_the_tables_is_callable() {
+    one_row_for_each_key();
+}

@@ -157,3 +157,8 @@ fn takes_other_spellings(rt: HostRuntime) -> Result<(), Fail> {
     );
     Ok(())
 }
+
+#[test]
+fn the_law_of_the_coding_is_callable() {
+    written_is_read();
+}

@@ -317,3 +317,8 @@ fn a_switch_row_counts_its_zeros(rt: HostRuntime) -> Result<(), Fail> {
     }
     Ok(())
 }
+
+#[test]
+fn the_law_of_rows_is_callable() {
+    rows_are_unique();
+}

@@ -115,3 +115,18 @@ fn a_fresh_session_has_channel_0_and_the_kept_one(rt: HostRuntime) {
         assert!(rt; session.copy() == *session);
     }
 }
+
+#[test]
+fn the_laws_of_sessions_are_callable() {
+    fresh_sessions_have_their_channels();
+    answers_stay_on_their_channel();
+    sessions_suit_their_cards();
+}
+
+#[test]
+fn a_channel_has_its_master_file_or_the_isdr(rt: HostRuntime) {
+    let master = Chan::at_master().with_pending(&[0x01]);
+    assert_eq!(rt; master.pending.as_slice(), [0x01].as_slice());
+    assert!(rt; !master.isdr && Chan::at_isdr().isdr);
+    assert!(rt; master.copy() == master);
+}
