@@ -1,1 +1,5 @@
 pub mod ChangeLemmas
+pub mod FormLemmas
+pub mod EachLemmas
+pub mod FilesLemmas
+pub mod PinsLemmas

@@ -37,7 +37,8 @@ fn copy_rows(alloc: Global, rows: &[FileRow]) -> Result<Vec<FileRow>, NoMemory>
     Ok(copies)
 }
 
-fn copy_pins(alloc: Global, pins: &[PinRow]) -> Result<Vec<PinRow>, NoMemory>
+/// The same PINs once more.
+pub fn copy_pins(alloc: Global, pins: &[PinRow]) -> Result<Vec<PinRow>, NoMemory>
     ensures { IfOk result (λ copies. copies.items ≡ pins.now) }
 {
     let mut copies = Vec::with_capacity(alloc, pins.len())?;

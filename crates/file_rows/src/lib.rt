@@ -3,13 +3,17 @@
 
 mod change;
 mod content;
+mod files;
+mod form;
 mod head;
 mod laws;
 mod pin;
+mod pins;
 mod row;
+mod valid;
 
 pub use change::{Change, Piece};
-pub use content::{Content, QUOTA, used};
+pub use content::{Content, QUOTA, copy_pins, used};
 pub use head::{FileHead, Kind, Life, Name, Path, Rule};
 pub use laws::changes_are_local;
 pub use pin::{PinRow, Puk};

@@ -65,7 +65,7 @@ fn a_copy_of_a_content_has_its_files_and_pins(rt: HostRuntime) -> Result<(), Fai
     assert_eq!(rt; rows[0].head, head(&[], Kind::Master, 0));
     assert_eq!(rt; rows[1].head, head(&[0x2F05], Kind::Transparent, 2));
     assert_eq!(rt; rows[1].body.as_slice(), [0x65, 0x6E].as_slice());
-    let pins = copy.pins.as_slice();
+    let pins = copy_pins(rt.alloc(), copy.pins.as_slice())?;
     assert_eq!(rt; pins.len(), 1);
     assert_eq!(rt; pins[0], pin());
     Ok(())
