@@ -10,3 +10,4 @@ pub mod RemoveLemmas
 pub mod SampleLemmas
 pub mod SlotLemmas
 pub mod TreeLemmas
+pub mod PlainLemmas

@@ -9,6 +9,13 @@ use plain_lists::LongList;
 use std::alloc::Global;
 use std::test::Fail;
 
+mod cards;
+mod entry;
+mod plain;
+mod random;
+mod reuse;
+mod sides;
+
 fn make_file(
     alloc: Global,
     path: &[u16],
@@ -73,6 +80,13 @@ fn files_are_looked_up(rt: HostRuntime) -> Result<(), Fail> {
     assert_eq!(rt; tree.parent(body), Some(mf));
     assert_eq!(rt; tree.parent(mf), None);
     Ok(())
+}
+
+#[test]
+fn a_tree_begins_without_files(rt: HostRuntime) {
+    let tree = Tree::new(rt.alloc());
+    assert_eq!(rt; tree.find(&[]), None);
+    assert_eq!(rt; tree.by_name(&[]), None);
 }
 
 #[test]

@@ -35,6 +35,17 @@ impl Model for Tree {
 }
 
 impl Tree {
+    /// The tree of a card without files. It takes no memory.
+    pub fn new(alloc: Global) -> Tree
+        ensures { rows_of result ≡ [] }
+    {
+        Tree {
+            arena: Arena::new(alloc),
+            room: Room::Nothing,
+            spare: Vec::new(alloc),
+        }
+    }
+
     /// The tree of the files of a card. It copies their bodies.
     pub fn make(alloc: Global, rows: &[FileRow]) -> Result<Tree, NoMemory>
         requires { AreFiles rows.now ⊎ (rows.now ≡ []) }
@@ -122,8 +133,8 @@ impl Tree {
         self.arena.parent(node)
     }
 
-    /// Takes the memory that `apply` needs for this change. Nothing else changes, and memory that was reserved for
-    /// another change is given back.
+    /// Takes the memory that `apply` needs for this change, in place of what was taken for an earlier new file or size.
+    /// Other changes than these two need none. Nothing else changes.
     pub fn reserve(&mut self, change: &Change) -> Result<(), NoMemory>
         requires { FitsFiles self.old change.now }
         ensures nodes { self.new.nodes ≡ self.old.nodes }

@@ -1,6 +1,4 @@
-use Rattle.std.proofs.Common.{◌≡◌, ℕ, List, ◌∷◌, [], map, get_or, ap, ◌∙◌}
-use Rattle.file_rows.specs.Change.{Fits}
-use Rattle.file_rows.specs.declared.change.Change.TheVariants.{WriteRange}
+use Rattle.std.proofs.Common.{◌≡◌, ℕ, List, [], map, get_or, ap, ◌∙◌}
 use Rattle.file_rows.specs.declared.row.FileRow.{FileRow}
 use Rattle.uicc_tree.specs.Files.{no_file, rows_of}
 use Rattle.uicc_tree.proofs.SampleLemmas.{write_fits}

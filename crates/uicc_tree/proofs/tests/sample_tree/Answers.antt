@@ -1,4 +1,4 @@
-use Rattle.std.proofs.Common.{rules, arith, inl}
+use Rattle.std.proofs.Common.{inl}
 use Rattle.uicc_tree.proofs.SampleLemmas.{sample_files}
 use Rattle.uicc_tree.proofs.tests.sample_tree.Goals as goal
 
