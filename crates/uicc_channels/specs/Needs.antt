@@ -1,4 +1,4 @@
-use Rattle.std.specs.Prelude.{Bool, true, List, [], ◌∷◌, Option, Some, None, if◌then◌else◌}
+use Rattle.std.specs.Prelude.{Bool, List, [], ◌∷◌, Option, Some, None, if◌then◌else◌}
 use Rattle.apdu_codec.specs.declared.status.Sw.{Sw}
 use Rattle.apdu_codec.specs.declared.status.TheConstants.Sw.{CHANNEL_NOT_SUPPORTED, INCOMPATIBLE_STRUCTURE, SECURITY_NOT_SATISFIED, WRONG_CLASS, WRONG_INSTRUCTION, WRONG_LENGTH, WRONG_P1_P2}
 

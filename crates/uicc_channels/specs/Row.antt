@@ -32,7 +32,7 @@ abbrev pub Follows : Row → Result Decided Sw → Type 0
 Follows row (Ok done) = (refusal_of row ≡ None) × (done ≡ row.done)
 Follows row (Err sw) = refusal_of row ≡ Some sw
 
--- what is left of a session by an instruction that was refused or done
-abbrev pub settled : Session → Result Decided Sw → Decided
-settled session (Ok done) = done
-settled session (Err sw) = refused session sw
+-- what an instruction came to, that was refused or done
+abbrev pub concluded : Session → Result Decided Sw → Decided
+concluded session (Ok done) = done
+concluded session (Err sw) = refused session sw

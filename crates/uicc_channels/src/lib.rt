@@ -8,6 +8,7 @@ mod chan;
 mod decided;
 mod delivery;
 mod laws;
+mod refusal;
 mod session;
 
 pub use chan::{Chan, Pending};
@@ -16,6 +17,7 @@ pub use delivery::{deliver, delivery_answer};
 pub use laws::{
     answers_stay_on_their_channel, fresh_sessions_have_their_channels, sessions_suit_their_cards,
 };
+pub use refusal::{conclude, refuse, require};
 pub use session::{CHANNELS, Channels, Refresh, Session, fresh};
 
 #[cfg(test)]

@@ -117,6 +117,23 @@ fn a_fresh_session_has_channel_0_and_the_kept_one(rt: HostRuntime) {
 }
 
 #[test]
+fn a_refused_command_changes_nothing(rt: HostRuntime) {
+    let session = fresh(true, Some(1)).with_pending(1, &[0x01]);
+    assert!(rt; require(true, Sw::WRONG_CLASS).is_ok());
+    assert!(rt; require(false, Sw::WRONG_CLASS) == Err(Sw::WRONG_CLASS));
+    let rows = [
+        refuse(&session, Sw::WRONG_CLASS),
+        conclude(&session, Err(Sw::WRONG_CLASS)),
+    ];
+    for refused in &rows {
+        assert_eq!(rt; refused.answer.sw, Sw(0x6E00));
+        assert!(rt; refused.answer.body.is_empty());
+        assert!(rt; refused.session == session);
+        assert!(rt; refused.change.is_none());
+    }
+}
+
+#[test]
 fn the_laws_of_sessions_are_callable() {
     fresh_sessions_have_their_channels();
     answers_stay_on_their_channel();
