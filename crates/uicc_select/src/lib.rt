@@ -4,12 +4,16 @@
 #![tactic(auto)]
 
 mod find;
+mod laws;
 mod naming;
 mod parameters;
-mod refusal;
 mod selection;
 mod state;
 
+pub use laws::sessions_suit_after_selection;
 pub use naming::Target;
 pub use selection::{ISDR_AID, select};
 pub use state::status;
+
+#[cfg(test)]
+mod tests;

@@ -3,7 +3,7 @@ ghost use Rattle.apdu_codec.specs.Command.{spoken};
 ghost use Rattle.uicc_channels.specs.Answer.{status as status_alone};
 ghost use Rattle.uicc_channels.specs.Delivery.{answered};
 ghost use Rattle.uicc_channels.specs.Row.{Follows, decided};
-ghost use Rattle.uicc_channels.specs.Session.{IsOpen};
+ghost use Rattle.uicc_channels.specs.Session.{IsOpen, Suits};
 ghost use Rattle.uicc_tree.specs.Change.{AreRows};
 ghost use Rattle.uicc_tree.specs.Files.{IsLive, file_of, rows_of};
 ghost use Rattle.uicc_select.specs.Status.{chan_of};
@@ -12,10 +12,9 @@ ghost use Rattle.uicc_select.specs.Select.{application_after, are_of_select, in_
 use crate::find::{find, holds_files, parent_of};
 use crate::naming::{Target, is_way, target_of};
 use crate::parameters::{Parameters, parameters_of};
-use crate::refusal::{require, settle};
 use apdu_codec::{Answer, Class, Command, Sw};
 use file_rows::{FileHead, Life, Path, PinRow};
-use uicc_channels::{Chan, Decided, Pending, Session, delivery_answer};
+use uicc_channels::{Chan, Decided, Pending, Session, conclude, delivery_answer, require};
 use uicc_tree::Tree;
 
 /// The AID of the ISD-R (GSMA SGP.02, SGP.22).
@@ -209,8 +208,8 @@ fn select_file(
 /// `isdr_here` says whether the ISD-R may be selected on the port; its whole AID then selects it in place of an
 /// application. What isn't found is `6A82`. A deactivated file answers `6283`, a terminated one `6285`, in place of
 /// `9000`; both are selected. What waited on the channel and its record pointer are gone once a SELECT is accepted; a
-/// refused one changes nothing. It goes down from the MF at most four times, looks for a name at each file, and takes
-/// no memory.
+/// refused one changes nothing. A session that suits the files goes on to suit them. It goes down from the MF at most
+/// four times, looks for a name at each file, and takes no memory.
 pub fn select(
     tree: &Tree,
     pins: &[PinRow],
@@ -220,9 +219,10 @@ pub fn select(
 ) -> Decided
     requires files { AreRows (rows_of tree.now) }
     requires open { IsOpen session.now command.now.channel }
-    ensures { result ≡ decided session.now (select_row (rows_of tree.now) pins.now session.now isdr_here (spoken command.now)) }
+    ensures value { result ≡ decided session.now (select_row (rows_of tree.now) pins.now session.now isdr_here (spoken command.now)) }
+    ensures suits { Suits session.now (rows_of tree.now) → Suits result.session (rows_of tree.now) }
 {
-    settle(session, choose(tree, pins, session, isdr_here, command))
+    conclude(session, choose(tree, pins, session, isdr_here, command))
 }
 
 fn choose(

@@ -1,17 +1,16 @@
 ghost use Rattle.std.specs.Prelude.{◌≡◌, ◌≤◌, ◌==◌, length, Some, None, MatchOption, IfSome};
 ghost use Rattle.apdu_codec.specs.Command.{spoken};
 ghost use Rattle.uicc_channels.specs.Row.{Follows, decided};
-ghost use Rattle.uicc_channels.specs.Session.{IsOpen};
+ghost use Rattle.uicc_channels.specs.Session.{IsOpen, Suits};
 ghost use Rattle.uicc_tree.specs.Change.{AreRows};
 ghost use Rattle.uicc_tree.specs.Files.{rows_of};
 ghost use Rattle.uicc_select.specs.Status.{are_of_status, is_special, name_object, name_of_application, parameters_of_directory, status_row};
 
 use crate::find::find_path;
 use crate::parameters::{Parameters, parameters_of};
-use crate::refusal::{require, settle};
 use apdu_codec::{Answer, AnswerBody, Class, Command, Sw};
 use file_rows::{Name, PinRow};
-use uicc_channels::{Chan, Decided, Session, deliver};
+use uicc_channels::{Chan, Decided, Session, conclude, deliver, require};
 use uicc_tree::Tree;
 
 fn is_special(class: Class) -> bool
@@ -62,13 +61,15 @@ fn name_of_application(tree: &Tree, chan: &Chan) -> Option<AnswerBody>
 /// channel's application as it stands in its control parameters, with `0C` no answer body.
 ///
 /// The answer body is delivered by its length and Le. A card without an MF has no current directory (`6A82`), and a
-/// channel may have no application (`6A88`). Nothing but what waits on the channel changes. It takes no memory.
+/// channel may have no application (`6A88`). Nothing but what waits on the channel changes; a session that suits the
+/// files goes on to suit them. It takes no memory.
 pub fn status(tree: &Tree, pins: &[PinRow], session: &Session, command: &Command) -> Decided
     requires files { AreRows (rows_of tree.now) }
     requires open { IsOpen session.now command.now.channel }
-    ensures { result ≡ decided session.now (status_row (rows_of tree.now) pins.now session.now (spoken command.now)) }
+    ensures value { result ≡ decided session.now (status_row (rows_of tree.now) pins.now session.now (spoken command.now)) }
+    ensures suits { Suits session.now (rows_of tree.now) → Suits result.session (rows_of tree.now) }
 {
-    settle(session, tell(tree, pins, session, command))
+    conclude(session, tell(tree, pins, session, command))
 }
 
 fn tell(tree: &Tree, pins: &[PinRow], session: &Session, command: &Command) -> Result<Decided, Sw>

@@ -1,0 +1,141 @@
+use Rattle.std.proofs.Common.{◌≡◌, ◌≢◌, ◌⊎◌, ℕ, Bool, true, false, cond, List, [], ◌∷◌, ◌++◌, find, refl, sym, ◌∙◌, ap, subst, inl, inr, Option, Some, None, IfSome, ⊎_elim}
+use Rattle.std.specs.List.{AllByRecursion}
+use Rattle.std.specs.Prelude.{◌==◌}
+use Rattle.std.specs.Option.{option_and_then, option_or}
+use Rattle.plain_lists.specs.EachTwo.{EachTwo}
+use Rattle.fcp_codec.specs.Writing.{own_id}
+use Rattle.file_rows.proofs.ChangeLemmas.{same_path-other, same_path-refl}
+use Rattle.file_rows.specs.Content.{file_at, heads_of}
+use Rattle.file_rows.specs.Path.{same_path}
+use Rattle.file_rows.specs.declared.head.FileHead.{FileHead}
+use Rattle.file_rows.specs.declared.row.FileRow.{FileRow}
+use Rattle.uicc_channels.specs.declared.chan.Chan.{Chan}
+use Rattle.uicc_select.specs.Find.{child, directory_in, down, file_of_path, found, found_by_id, found_near, from_master, named, only, parent_of}
+use Rattle.uicc_select.specs.declared.find.TheConstants.{CURRENT_APPLICATION, MASTER_FILE}
+use Rattle.uicc_select.specs.declared.naming.Target.{Target}
+use Rattle.uicc_select.specs.declared.naming.Target.TheVariants.{Id, Directory, Parent, Named, FromMaster, FromCurrent}
+
+-- no two files have one path
+abbrev pub AreApart : List FileRow → Type 0
+AreApart rows = EachTwo (λ one other. one.path ≢ other.path) (heads_of rows)
+
+-- the file is the one of its path
+abbrev pub IsAmong : List FileRow → FileRow → Type 0
+IsAmong rows row = file_at row.head.path rows ≡ Some row
+
+-- a search finds the first file, which passes, or a later one
+find_step : (b : Bool) (r : FileRow) (later : Option FileRow) (row : FileRow) → cond b (Some r) later ≡ Some row → ((b ≡ true) × (r ≡ row)) ⊎ (later ≡ Some row)
+find_step true r later row e = inl (refl, cc)
+find_step false r later row e = inr e
+
+-- what is found passes
+pub found_passes : (test : FileRow → Bool) (rows : List FileRow) (row : FileRow) → find test rows ≡ Some row → test row ≡ true
+found_passes test [] row e = absurd (cc)
+found_passes test (r ∷ rows) row e =
+    ⊎_elim (λ here. ap test (sym here.1) ∙ here.0) (λ later. found_passes test rows row later) (find_step (test r) r (find test rows) row e)
+
+-- what holds of each file's head holds of that of what is found
+pub found_head : (P : FileHead → Type 0) (test : FileRow → Bool) (rows : List FileRow) (row : FileRow) → AllByRecursion P (heads_of rows) → find test rows ≡ Some row → P row.head
+found_head P test [] row each e = absurd (cc)
+found_head P test (r ∷ rows) row each e =
+    ⊎_elim (λ here. subst (λ (x : FileRow). P x.head) here.1 each.0) (λ later. found_head P test rows row each.1 later) (find_step (test r) r (find test rows) row e)
+
+-- a file in front has another path
+pub among_later : (r : FileRow) (rows : List FileRow) (row : FileRow) → AllByRecursion (λ other. r.head.path ≢ other.path) (heads_of rows) → IsAmong rows row → IsAmong (r ∷ rows) row
+among_later r rows row apart among =
+    let other : r.head.path ≢ row.head.path = found_head (λ (head : FileHead). r.head.path ≢ head.path) (λ (x : FileRow). same_path x.head.path row.head.path) rows row apart among in
+    ap (λ (b : Bool). cond b (Some r) (file_at row.head.path rows)) (same_path-other r.head.path row.head.path other) ∙ among
+
+pub among_first : (r : FileRow) (rows : List FileRow) → IsAmong (r ∷ rows) r
+among_first r rows = ap (λ (b : Bool). cond b (Some r) (file_at r.head.path rows)) (same_path-refl r.head.path)
+
+-- what any search finds is the file of its path
+pub among_found : (test : FileRow → Bool) (rows : List FileRow) (row : FileRow) → AreApart rows → find test rows ≡ Some row → IsAmong rows row
+among_found test [] row apart e = absurd (cc)
+among_found test (r ∷ rows) row apart e =
+    ⊎_elim (λ here. subst (λ (x : FileRow). IsAmong (r ∷ rows) x) here.1 (among_first r rows))
+    (λ later. among_later r rows row apart.0 (among_found test rows row apart.1 later))
+    (find_step (test r) r (find test rows) row e)
+
+module _ {X : Type 0} (P : X → Type 0) where
+  -- what is said of what there may be
+  IfSome-each : (o : Option X) → ((x : X) → o ≡ Some x → P x) → IfSome o P
+  IfSome-each None each = tt
+  IfSome-each (Some x) each = each x refl
+
+  pub IfSome-at : (o : Option X) (x : X) → IfSome o P → o ≡ Some x → P x
+  IfSome-at o x said e = subst (λ (p : Option X). IfSome p P) e said
+
+  IfSome-cond : (b : Bool) (x y : Option X) → IfSome x P → IfSome y P → IfSome (cond b x y) P
+  IfSome-cond true x y first second = first
+  IfSome-cond false x y first second = second
+
+  IfSome-or : (x y : Option X) → IfSome x P → IfSome y P → IfSome (option_or x y) P
+  IfSome-or None y first second = second
+  IfSome-or (Some x) y first second = first
+
+  IfSome-any : {Y : Type 0} (f : Y → Option X) (o : Option Y) → ((y : Y) → IfSome (f y) P) → IfSome (option_and_then f o) P
+  IfSome-any f None each = tt
+  IfSome-any f (Some y) each = each y
+
+  IfSome-then : {Y : Type 0} (Q : Y → Type 0) (f : Y → Option X) (o : Option Y) → IfSome o Q → ((y : Y) → Q y → IfSome (f y) P) → IfSome (option_and_then f o) P
+  IfSome-then Q f None said each = tt
+  IfSome-then Q f (Some y) said each = each y said
+
+module _ (rows : List FileRow) (apart : AreApart rows) where
+  by_test : (test : FileRow → Bool) → IfSome (find test rows) (IsAmong rows)
+  by_test test = IfSome-each (IsAmong rows) (find test rows) (λ row e. among_found test rows row apart e)
+
+  by_path : (path : List ℕ) → IfSome (file_at path rows) (IsAmong rows)
+  by_path path = by_test (λ row. same_path row.head.path path)
+
+  by_passing : (passes : FileRow → Bool) (o : Option FileRow) → IfSome o (IsAmong rows) → IfSome (only passes o) (IsAmong rows)
+  by_passing passes None among = tt
+  by_passing passes (Some row) among = IfSome-cond (IsAmong rows) (passes row) (Some row) None among tt
+
+  by_child : (directory : List ℕ) (id : ℕ) → IfSome (child rows directory id) (IsAmong rows)
+  by_child directory id = by_passing _ _ (by_path (directory ++ id ∷ []))
+
+  by_directory : (directory : List ℕ) (id : ℕ) → IfSome (directory_in rows directory id) (IsAmong rows)
+  by_directory directory id = by_passing _ _ (by_child directory id)
+
+  by_name : (id : ℕ) (path : List ℕ) → IfSome (named rows id path) (IsAmong rows)
+  by_name id path = IfSome-cond (IsAmong rows) (own_id path == id) (file_at path rows) None (by_path path) tt
+
+  by_some_path : (path : Option (List ℕ)) → IfSome (file_of_path rows path) (IsAmong rows)
+  by_some_path path = IfSome-any (IsAmong rows) _ path by_path
+
+  by_near : (directory : List ℕ) (id : ℕ) → IfSome (found_near rows directory id) (IsAmong rows)
+  by_near directory id =
+      IfSome-or (IsAmong rows) _ _ (by_child directory id)
+      (IfSome-or (IsAmong rows) _ _ (by_name id directory)
+      (IfSome-or (IsAmong rows) _ _ (IfSome-any (IsAmong rows) (named rows id) (parent_of directory) (by_name id))
+      (IfSome-or (IsAmong rows) _ _ (IfSome-any (IsAmong rows) (λ parent. directory_in rows parent id) (parent_of directory) (λ parent. by_directory parent id)) tt)))
+
+  by_id : (chan : Chan) (id : ℕ) → IfSome (found_by_id rows chan id) (IsAmong rows)
+  by_id chan id =
+      IfSome-cond (IsAmong rows) (id == MASTER_FILE) _ _ (by_path [])
+      (IfSome-cond (IsAmong rows) (id == CURRENT_APPLICATION) (file_of_path rows chan.app) (found_near rows chan.dir id) (by_some_path chan.app) (by_near chan.dir id))
+
+  by_steps : (ids : List ℕ) (row : FileRow) → IsAmong rows row → IfSome (down rows ids row) (IsAmong rows)
+  by_steps [] row among = among
+  by_steps (id ∷ ids) row among =
+      IfSome-then (IsAmong rows) (IsAmong rows) (down rows ids) (child rows row.head.path id) (by_child row.head.path id) (by_steps ids)
+
+  by_steps_from : (ids : List ℕ) (start : Option FileRow) → IfSome start (IsAmong rows) → IfSome (option_and_then (down rows ids) start) (IsAmong rows)
+  by_steps_from ids start among = IfSome-then (IsAmong rows) (IsAmong rows) (down rows ids) start among (by_steps ids)
+
+  by_master : (chan : Chan) (ids : List ℕ) → IfSome (from_master rows chan ids) (IsAmong rows)
+  by_master chan [] = tt
+  by_master chan (id ∷ ids) =
+      IfSome-cond (IsAmong rows) (id == CURRENT_APPLICATION) _ _ (by_steps_from ids (file_of_path rows chan.app) (by_some_path chan.app))
+      (by_steps_from (id ∷ ids) (file_at [] rows) (by_path []))
+
+  -- what a channel finds is a file of the card
+  pub found_among : (chan : Chan) (target : Target) → IfSome (found rows chan target) (IsAmong rows)
+  found_among chan (Id id) = by_id chan id
+  found_among chan (Directory id) = by_directory chan.dir id
+  found_among chan Parent = by_some_path (parent_of chan.dir)
+  found_among chan (Named name) = by_test _
+  found_among chan (FromMaster ids) = by_master chan ids
+  found_among chan (FromCurrent ids) = by_steps_from ids (file_at chan.dir rows) (by_path chan.dir)

@@ -1,0 +1,170 @@
+use Rattle.std.proofs.Common.{◌≡◌, ℕ, Bool, true, false, cond, ◌&&◌, List, [], refl, sym, ◌∙◌, ap, subst, inl, inr, ⊎_elim, Option, Some, None, IfSome, IsSomeAnd, IsTrue}
+use Rattle.std.specs.Prelude.{◌==◌}
+use Rattle.std.specs.Option.{unwrap_or}
+use Rattle.apdu_codec.specs.Command.{Spoken}
+use Rattle.apdu_codec.specs.declared.status.Sw.{Sw}
+use Rattle.apdu_codec.specs.declared.status.TheConstants.Sw.{OK}
+use Rattle.file_rows.specs.Content.{AreFiles, IsValid, file_at}
+use Rattle.file_rows.specs.FileHead.{holds_files, is_application}
+use Rattle.file_rows.specs.Path.{master}
+use Rattle.file_rows.specs.declared.content.Content.{Content}
+use Rattle.file_rows.specs.declared.head.Kind.{Kind}
+use Rattle.file_rows.specs.declared.head.Kind.TheVariants.{Master, Directory as DedicatedFile, Application, Transparent, Linear, Cyclic}
+use Rattle.file_rows.specs.declared.pin.PinRow.{PinRow}
+use Rattle.file_rows.specs.declared.row.FileRow.{FileRow}
+use Rattle.uicc_channels.proofs.SessionLemmas.{Suits-waiting, Suits-with_channel, master_is_there}
+use Rattle.uicc_channels.specs.Chan.{IsDirectoryIn, StandsAmong, at_isdr, at_master}
+use Rattle.uicc_channels.specs.Answer.{status}
+use Rattle.uicc_channels.specs.Row.{Row, decided, refusal_of, refused_or}
+use Rattle.uicc_channels.specs.Session.{Suits, channel_at, with_channel}
+use Rattle.uicc_channels.specs.declared.chan.Chan.{Chan}
+use Rattle.uicc_channels.specs.declared.decided.Decided.{Decided}
+use Rattle.uicc_channels.specs.declared.session.Session.{Session}
+use Rattle.uicc_select.proofs.DirectoryLemmas.{directory_of_file}
+use Rattle.uicc_select.proofs.FoundLemmas.{AreApart, IfSome-at, IsAmong, found_among, found_passes}
+use Rattle.uicc_select.specs.Find.{found, parent_of}
+use Rattle.uicc_select.specs.Select.{Choice, application_after, choice_of, choice_of_file, names_isdr, select_row, standing_at}
+use Rattle.uicc_select.specs.Status.{chan_of, delivered_of, name_of_application, parameters_of_directory, status_row}
+use Rattle.uicc_select.specs.Target.{target_of}
+use Rattle.uicc_select.specs.declared.naming.Target.{Target}
+use Rattle.uicc_select.specs.declared.naming.Target.TheVariants.{Id, Directory, Parent, Named, FromMaster, FromCurrent}
+use Rattle.uicc_tree.specs.Change.{AreRows}
+
+-- what a card may hold are the files of one, or none
+pub AreRows-valid : (content : Content) → IsValid content → AreRows content.rows
+AreRows-valid content valid = ⊎_elim (λ empty. inr empty.rows) (λ system. inl system.files) valid.system
+
+apart_rows : (rows : List FileRow) → AreRows rows → AreApart rows
+apart_rows rows either = ⊎_elim (λ files. files.paths) (λ none. subst AreApart (sym none) tt) either
+
+-- where a file is found there are files
+files_with : (rows : List FileRow) (row : FileRow) → AreRows rows → IsAmong rows row → AreFiles rows
+files_with rows row either among =
+    ⊎_elim (λ files. files)
+    (λ none. let nothing : None ≡ Some row = sym (ap (λ (rows : List FileRow). file_at row.head.path rows) none) ∙ among in absurd (cc))
+    either
+
+-- a file among them with what is said of it
+is_there : (P : FileRow → Type 0) (rows : List FileRow) (row : FileRow) → IsAmong rows row → P row → IsSomeAnd (file_at row.head.path rows) P
+is_there P rows row among said = subst (λ (o : Option FileRow). IsSomeAnd o P) (sym among) said
+
+application_kind : (kind : Kind) → is_application kind ≡ true → kind ≡ Application
+application_kind Master e = absurd (cc)
+application_kind DedicatedFile e = absurd (cc)
+application_kind Application e = refl
+application_kind Transparent e = absurd (cc)
+application_kind Linear e = absurd (cc)
+application_kind Cyclic e = absurd (cc)
+
+first_met : (one other : Bool) → (one && other) ≡ true → one ≡ true
+first_met true other e = refl
+first_met false other e = e
+
+abbrev IsApplicationIn : List FileRow → List ℕ → Type 0
+IsApplicationIn rows path = IsSomeAnd (file_at path rows) (λ row. row.head.kind ≡ Application)
+
+module _ (rows : List FileRow) (either : AreRows rows) (chan : Chan) (stands : StandsAmong rows chan) (row : FileRow) where
+  -- the channel's application is one of the card
+  application_stands : (target : Target) → found rows chan target ≡ Some row → IsAmong rows row → IfSome (application_after chan.app target row.head.path) (IsApplicationIn rows)
+  application_stands (Id id) e among = stands.app
+  application_stands (Directory id) e among = stands.app
+  application_stands Parent e among = stands.app
+  application_stands (Named name) e among =
+      is_there (λ row. row.head.kind ≡ Application) rows row among
+      (application_kind row.head.kind (first_met _ _ (found_passes _ rows row e)))
+  application_stands (FromMaster ids) e among = stands.app
+  application_stands (FromCurrent ids) e among = stands.app
+
+  abbrev at_directory : Option (List ℕ) → List ℕ → Chan
+  at_directory app pending = record { isdr = false; app = app; dir = row.head.path; file = None; pointer = 0; pending = pending }
+
+  abbrev at_file : Option (List ℕ) → List ℕ → Chan
+  at_file app pending = record {
+    isdr = false;
+    app = app;
+    dir = unwrap_or (parent_of row.head.path) master;
+    file = Some row.head.path;
+    pointer = 0;
+    pending = pending;
+  }
+
+  -- a directory is where it is, and the directory of an EF is one of the card
+  by_kind : (app : Option (List ℕ)) (pending : List ℕ) (holds : Bool) → IsAmong rows row → IfSome app (IsApplicationIn rows) → holds_files row.head.kind ≡ holds → StandsAmong rows (cond holds (at_directory app pending) (at_file app pending))
+  by_kind app pending true among there kind = record {
+    app = there;
+    dir = inr (is_there (λ row. IsTrue (holds_files row.head.kind)) rows row among kind);
+    file = tt;
+    pointer = inl refl;
+  }
+  by_kind app pending false among there kind = record {
+    app = there;
+    dir = directory_of_file rows row (files_with rows row either among) among kind;
+    file = is_there (λ row. holds_files row.head.kind ≡ false) rows row among kind;
+    pointer = inl refl;
+  }
+
+  -- a channel at what it found stands among the files
+  pub StandsAmong-standing_at : (target : Target) (pending : List ℕ) → found rows chan target ≡ Some row → StandsAmong rows (standing_at chan target row.head pending)
+  StandsAmong-standing_at target pending e =
+      let among : IsAmong rows row = IfSome-at (IsAmong rows) (found rows chan target) row (found_among rows (apart_rows rows either) chan target) e in
+      by_kind (application_after chan.app target row.head.path) pending (holds_files row.head.kind) among (application_stands target e among) refl
+
+IsDirectoryIn-root : (rows : List FileRow) → AreRows rows → IsDirectoryIn rows master
+IsDirectoryIn-root rows either = ⊎_elim (λ files. inr (master_is_there rows files)) (λ none. inl (none, refl)) either
+
+module _ (rows : List FileRow) (either : AreRows rows) (session : Session) (suits : Suits session rows) where
+  open_or_root : (place : Option Chan) → IfSome place (StandsAmong rows) → StandsAmong rows (unwrap_or place at_master)
+  open_or_root None stands = record { app = tt; dir = IsDirectoryIn-root rows either; file = tt; pointer = inl refl }
+  open_or_root (Some chan) stands = stands
+
+  -- the channel of a command stands among the files, and a closed one as at the MF
+  chan_stands : (c : Spoken) → StandsAmong rows (chan_of session c)
+  chan_stands c = open_or_root (channel_at session c.channel) (suits.each c.channel)
+
+  -- a channel goes where it stands among the files
+  Suits-moved : (number : ℕ) (chan : Chan) → StandsAmong rows chan → Suits (with_channel session number (Some chan)) rows
+  Suits-moved number chan stands = Suits-with_channel session rows number (Some chan) suits stands (λ e. refl)
+
+  Suits-choice_of_file : (pins : List PinRow) (c : Spoken) (target : Target) (file : Option FileRow) → found rows (chan_of session c) target ≡ file → Suits (choice_of_file pins session c (chan_of session c) target file).done.session rows
+  Suits-choice_of_file pins c target None e = suits
+  Suits-choice_of_file pins c target (Some row) e =
+      Suits-moved c.channel _ (StandsAmong-standing_at rows either (chan_of session c) (chan_stands c) row target _ e)
+
+  Suits-cond : (b : Bool) (one other : Choice) → Suits one.done.session rows → Suits other.done.session rows → Suits (cond b one other).done.session rows
+  Suits-cond true one other first second = first
+  Suits-cond false one other first second = second
+
+  Suits-choice_of : (pins : List PinRow) (isdr_here : Bool) (c : Spoken) (target : Option Target) → Suits (choice_of rows pins session isdr_here c target).done.session rows
+  Suits-choice_of pins isdr_here c None = suits
+  Suits-choice_of pins isdr_here c (Some target) =
+      Suits-cond (isdr_here && names_isdr target) _ _
+      (Suits-moved c.channel at_isdr (record { app = tt; dir = IsDirectoryIn-root rows either; file = tt; pointer = inl refl }))
+      (Suits-choice_of_file pins c target (found rows (chan_of session c) target) refl)
+
+  -- a refused command leaves the session
+  refused_or_done : (refusal : Option Sw) (done : Decided) → Suits done.session rows → Suits (refused_or refusal session done).session rows
+  refused_or_done None done stands = stands
+  refused_or_done (Some sw) done stands = suits
+
+  Suits-decided : (row : Row) → Suits row.done.session rows → Suits (decided session row).session rows
+  Suits-decided row done = refused_or_done (refusal_of row) row.done done
+
+  pub Suits-select_row : (pins : List PinRow) (isdr_here : Bool) (c : Spoken) → Suits (select_row rows pins session isdr_here c).done.session rows
+  Suits-select_row pins isdr_here c = Suits-choice_of pins isdr_here c (target_of c.p1 c.body)
+
+  -- a session goes on to suit a card's files after SELECT
+  pub Suits-select : (pins : List PinRow) (isdr_here : Bool) (c : Spoken) → Suits (decided session (select_row rows pins session isdr_here c)).session rows
+  Suits-select pins isdr_here c = Suits-decided (select_row rows pins session isdr_here c) (Suits-select_row pins isdr_here c)
+
+  Suits-told : (one other : Bool) (c : Spoken) (parameters name : Option (List ℕ)) → Suits (cond one (delivered_of session c parameters) (cond other (delivered_of session c name) (record { answer = status OK; session = session; change = None }))).session rows
+  Suits-told true other c parameters name = Suits-waiting c.le session rows c.channel (unwrap_or parameters []) suits
+  Suits-told false true c parameters name = Suits-waiting c.le session rows c.channel (unwrap_or name []) suits
+  Suits-told false false c parameters name = suits
+
+  pub Suits-status_row : (pins : List PinRow) (c : Spoken) → Suits (status_row rows pins session c).done.session rows
+  Suits-status_row pins c =
+      Suits-told (c.p2 == 0) (c.p2 == 1) c (parameters_of_directory rows pins (chan_of session c)) (name_of_application rows (chan_of session c))
+
+  -- and after STATUS
+  pub Suits-status : (pins : List PinRow) (c : Spoken) → Suits (decided session (status_row rows pins session c)).session rows
+  Suits-status pins c = Suits-decided (status_row rows pins session c) (Suits-status_row pins c)

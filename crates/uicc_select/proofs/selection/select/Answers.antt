@@ -1,0 +1,15 @@
+use Rattle.std.proofs.Common.{◌≡◌, ◌∙◌}
+use Rattle.apdu_codec.specs.Command.{spoken}
+use Rattle.uicc_channels.specs.Row.{Row, decided}
+use Rattle.uicc_tree.specs.Files.{rows_of}
+use Rattle.uicc_select.proofs.RowLemmas.{concluded-Follows}
+use Rattle.uicc_select.proofs.SuitsLemmas.{Suits-select}
+use Rattle.uicc_select.specs.Select.{select_row}
+use Rattle.uicc_select.proofs.selection.select.Goals as goal
+
+pub returns-clause-suits : goal.returns-clause-suits
+returns-clause-suits c suits =
+    let row : Row = select_row (rows_of c.args.tree.now) c.args.pins.now c.args.session.now c.args.isdr_here (spoken c.args.command.now) in
+    let value : c.conclude.result ≡ decided c.args.session.now row =
+    c.conclude.ensures ∙ concluded-Follows c.args.session.now row c.choose.result c.choose.ensures in
+    rw value (Suits-select (rows_of c.args.tree.now) c.requires.files c.args.session.now suits c.args.pins.now c.args.isdr_here (spoken c.args.command.now))
