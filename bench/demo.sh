@@ -1,6 +1,6 @@
 #!/usr/bin/env bash
-# Answers per second and greatest resident memory of `card_run demo` on a script of 20,000 lines: a SELECT and a READ
-# BINARY in turn over the files of the sample card. The time of starting the program on an empty script is taken off,
+# Answers per second and greatest resident memory of `card_run demo` on a script of 20,000 lines: a SELECT with
+# its control parameters and a READ BINARY in turn over the files of the sample card. The time of starting the program on an empty script is taken off,
 # and the same lines read by Python's bytes.fromhex give a measure of the machine.
 set -eu
 top=$(cd "$(dirname "${BASH_SOURCE[0]}")/.." && pwd)
@@ -13,7 +13,7 @@ most = 0
 files = ["2F05", "2FE2", "2F06", "2F00", "2F08"]
 lines = []
 for i in range(10_000):
-    lines.append("port 1: 00A4000C02" + files[i % len(files)])
+    lines.append("port 1: 00A4000402" + files[i % len(files)] + "00")
     lines.append("port 1: 00B0000000")
 script = tempfile.NamedTemporaryFile("w", suffix=".card", delete=False)
 script.write("\n".join(lines) + "\n")

@@ -5,8 +5,9 @@ use Rattle.std.specs.Io.KnownBytes.{Appends}
 use Rattle.std.specs.Prelude.{slice_get}
 use Rattle.apdu_codec.specs.declared.answers.Answer.{Answer}
 use Rattle.profile_card.specs.Card.{Card}
+use Rattle.profile_card.specs.Held.{Held, card_of}
 use Rattle.profile_card.specs.Sample.{sample_card}
-use Rattle.profile_card.specs.Step.{Answers, Runs, RunsTo}
+use Rattle.profile_card.specs.Step.{Gives, Runs, RunsTo}
 use Rattle.profile_card.proofs.RunLemmas.{RunsTo-front, RunsTo-more}
 use Rattle.card_run.specs.Demo.{IsRun, WritesFront, answer_line, answer_lines, demo_text}
 use Rattle.card_run.specs.Script.{ScriptStatement}
@@ -16,9 +17,9 @@ abbrev pub apdus : List ScriptStatement → List (List ℕ)
 apdus statements = map (λ statement. statement.apdu) statements
 
 -- the card has answered these statements, and the text of its answers is written but for what is gathered
-pub record RunSoFar (statements : List ScriptStatement) (card : Card) (before now : Option (List ℕ)) (gathered : List ℕ) : Type 0 where
+pub record RunSoFar (statements : List ScriptStatement) (card : Held) (before now : Option (List ℕ)) (gathered : List ℕ) : Type 0 where
   pub answers : List Answer
-  pub run : RunsTo sample_card (apdus statements) answers card
+  pub run : RunsTo sample_card (apdus statements) answers (card_of card)
   pub written : List ℕ
   pub appended : Appends before now written
   pub text : demo_text answers ≡ written ++ gathered
@@ -63,13 +64,13 @@ Appends-nothing : (known : Option (List ℕ)) → Appends known known []
 Appends-nothing None = tt
 Appends-nothing (Some xs) = sym (append-nil xs)
 
-pub start : (before : Option (List ℕ)) → RunSoFar [] sample_card before before []
-start before = record { answers = []; run = refl; written = []; appended = Appends-nothing before; text = refl }
+pub start : (before : Option (List ℕ)) (card : Held) → card_of card ≡ sample_card → RunSoFar [] card before before []
+start before card e = record { answers = []; run = e; written = []; appended = Appends-nothing before; text = refl }
 
 -- one more statement is answered, and its line gathered
-pub answered : (script : List ScriptStatement) (index : ℕ) (statement : ScriptStatement) (card next : Card) (before now : Option (List ℕ)) (block longer : List ℕ) (answer : Answer)
+pub answered : (script : List ScriptStatement) (index : ℕ) (statement : ScriptStatement) (card next : Held) (before now : Option (List ℕ)) (block longer : List ℕ) (answer : Answer)
     → RunSoFar (take index script) card before now block → slice_get script index ≡ Some statement → index < length script
-    → Answers card statement.apdu (record { answer = answer; card = next }) → longer ≡ block ++ answer_line (index + 1) answer
+    → Gives (card_of card) statement.apdu answer (card_of next) → longer ≡ block ++ answer_line (index + 1) answer
     → RunSoFar (take (index + 1) script) next before now longer
 answered script index statement card next before now block longer answer so_far found within given line =
     let commands : apdus (take (index + 1) script) ≡ apdus (take index script) ++ statement.apdu ∷ [] =
@@ -79,7 +80,7 @@ answered script index statement card next before now block longer answer so_far 
     let number : 1 + length so_far.answers ≡ index + 1 = omega arith in
     record {
       answers = so_far.answers ++ answer ∷ [];
-      run = subst (λ (commands : List (List ℕ)). RunsTo sample_card commands (so_far.answers ++ answer ∷ []) next) (sym commands) (RunsTo-more _ _ card next so_far.answers statement.apdu answer so_far.run given);
+      run = subst (λ (commands : List (List ℕ)). RunsTo sample_card commands (so_far.answers ++ answer ∷ []) (card_of next)) (sym commands) (RunsTo-more _ _ (card_of card) (card_of next) so_far.answers statement.apdu answer so_far.run given);
       written = so_far.written;
       appended = so_far.appended;
       text =
@@ -91,7 +92,7 @@ answered script index statement card next before now block longer answer so_far 
     }
 
 -- a front of what was gathered is written, and the rest stays gathered
-pub moved : (statements : List ScriptStatement) (card : Card) (before now new : Option (List ℕ)) (block piece rest : List ℕ) → RunSoFar statements card before now block → Appends now new piece → block ≡ piece ++ rest → RunSoFar statements card before new rest
+pub moved : (statements : List ScriptStatement) (card : Held) (before now new : Option (List ℕ)) (block piece rest : List ℕ) → RunSoFar statements card before now block → Appends now new piece → block ≡ piece ++ rest → RunSoFar statements card before new rest
 moved statements card before now new block piece rest so_far more parts =
     record {
       answers = so_far.answers;
@@ -102,17 +103,17 @@ moved statements card before now new block piece rest so_far more parts =
     }
 
 -- all is answered and written
-pub finished : (script : List ScriptStatement) (card : Card) (before now new : Option (List ℕ)) (block : List ℕ) → RunSoFar script card before now block → Appends now new block
+pub finished : (script : List ScriptStatement) (card : Held) (before now new : Option (List ℕ)) (block : List ℕ) → RunSoFar script card before now block → Appends now new block
     → (answers : List Answer) × IsRun script answers × Appends before new (demo_text answers)
 finished script card before now new block so_far more =
-    (so_far.answers, (card, so_far.run), subst (Appends before new) (sym so_far.text) (Appends-trans before now new so_far.written block so_far.appended more))
+    (so_far.answers, (card_of card, so_far.run), subst (Appends before new) (sym so_far.text) (Appends-trans before now new so_far.written block so_far.appended more))
 
 -- a front of what was gathered is written, which is a front of the text
-pub stopped : (script : List ScriptStatement) (index : ℕ) (card : Card) (before now new : Option (List ℕ)) (block : List ℕ) (n : ℕ) (answers : List Answer)
+pub stopped : (script : List ScriptStatement) (index : ℕ) (card : Held) (before now new : Option (List ℕ)) (block : List ℕ) (n : ℕ) (answers : List Answer)
     → RunSoFar (take index script) card before now block → Appends now new (take n block) → n ≤ length block → IsRun script answers → WritesFront before new (demo_text answers)
 stopped script index card before now new block n answers so_far more within run =
     let commands : apdus (take index script) ++ apdus (drop index script) ≡ apdus script = sym (map-append (λ (s : ScriptStatement). s.apdu) (take index script) (drop index script)) ∙ ap apdus (take-append-drop index script) in
-    let rest = RunsTo-front (apdus (take index script)) (apdus (drop index script)) sample_card card so_far.answers answers so_far.run (subst (λ (commands : List (List ℕ)). Runs sample_card commands answers) (sym commands) run) in
+    let rest = RunsTo-front (apdus (take index script)) (apdus (drop index script)) sample_card (card_of card) so_far.answers answers so_far.run (subst (λ (commands : List (List ℕ)). Runs sample_card commands answers) (sym commands) run) in
     let text : demo_text answers ≡ (so_far.written ++ block) ++ answer_lines (1 + length so_far.answers) rest.0 =
     ap demo_text rest.1 ∙ (answer_lines-append so_far.answers rest.0 1 ∙ ap (λ (text : List ℕ). text ++ answer_lines (1 + length so_far.answers) rest.0) so_far.text) in
     let front : so_far.written ++ take n block ≡ take (length so_far.written + n) (demo_text answers) = rw text (front_of so_far.written block (answer_lines (1 + length so_far.answers) rest.0) (length so_far.written + n) n refl within) in

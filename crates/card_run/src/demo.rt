@@ -3,7 +3,8 @@ ghost use Rattle.std.specs.Prelude.{◌≡◌, ℕ, ◌⊎◌, ◌↔◌, List, 
 ghost use Rattle.std.specs.Io.KnownBytes.{Appends, IsAtEnd};
 ghost use Rattle.apdu_codec.specs.declared.answers.Answer.{Answer};
 ghost use Rattle.port_io.specs.Faults.{NeverFalls, OnlyWhereRose, Rose};
-ghost use Rattle.profile_card.specs.Step.{Answers};
+ghost use Rattle.profile_card.specs.Held.{card_of};
+ghost use Rattle.profile_card.specs.Step.{Gives};
 ghost use Rattle.card_run.specs.Demo.{IsDemo, IsRun, WritesFront, demo_text};
 ghost use Rattle.card_run.specs.Load.{HasLoadCause, HasWriteCause};
 ghost use Rattle.card_run.specs.Script.{HasFirstFault, IsScript, ScriptStatement};
@@ -16,7 +17,7 @@ use crate::status::Status;
 use crate::words::is_demo;
 use apdu_codec::{Answer, read_command};
 use port_io::{Failed, Sink, Source};
-use profile_card::DemoCard;
+use profile_card::{Card1, sample_card};
 use std::alloc::Global;
 
 /// How much text is gathered before it is written.
@@ -26,11 +27,15 @@ const BLOCK: usize = 65_536;
 const LONGEST_LINE: usize = 1_024;
 
 // What the card answers to these bytes.
-fn reply(card: &mut DemoCard, bytes: &[u8]) -> Answer
-    ensures { Answers card.old bytes.now (record { answer = result; card = card.new }) }
+fn reply(card: &mut Card1, bytes: &[u8]) -> Answer
+    ensures { Gives (card_of card.old) bytes.now result (card_of card.new) }
 {
     match read_command(bytes) {
-        Ok(command) => card.answer(&command),
+        Ok(command) => {
+            let decided = card.decide(&command);
+            card.settle(&decided);
+            decided.answer
+        }
         Err(sw) => Answer::status(sw),
     }
 }
@@ -83,7 +88,7 @@ fn answer_all<K: Sink>(alloc: Global, script: &Script, out: &mut K) -> Result<()
     ensures cause { IfErr result (HasWriteCause (K.faults out.old) (K.faults out.new)) }
     ensures count { NeverFalls (K.faults out.old) (K.faults out.new) }
 {
-    let mut card = DemoCard::start(alloc)?;
+    let mut card = sample_card(alloc)?;
     let mut block = Vec::with_capacity(alloc, BLOCK + LONGEST_LINE)?;
     for index in 0..script.len() {
         let answer = reply(&mut card, script.statement(index).apdu);

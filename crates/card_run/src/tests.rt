@@ -46,6 +46,20 @@ fn the_sample_card_answers_as_in_the_worked_example(rt: HostRuntime) -> Result<(
     Ok(())
 }
 
+const MODEM: &str =
+    "port 1: 00A40004023F0000\nport 1: 00A40004022FE200\nport 1: 00B000000A\nport 1: 80F2000C\nport 1: 00A4000C026F07\nport 1: 807A000003\n";
+
+const MODEM_ANSWERS: &str =
+    "1.1 62208202782183023F00A5038001718A01058B032F0601C6099001C083010183010A9000\n1.2 62178202412183022FE28A01058B032F06018002000A8801109000\n1.3 989400000000000000F19000\n1.4 9000\n1.5 6A82\n1.6 6D00\n";
+
+#[test]
+fn a_modem_selects_with_control_parameters(rt: HostRuntime) -> Result<(), Fail> {
+    let (status, text) = run(rt.alloc(), &["demo"], MODEM, (0, 0), 1_000)?;
+    assert_eq!(rt; status, Status::Done);
+    assert_eq!(rt; text.as_slice(), MODEM_ANSWERS.as_bytes());
+    Ok(())
+}
+
 #[test]
 fn other_words_are_usage_and_read_nothing(rt: HostRuntime) -> Result<(), Fail> {
     let rows: [&[&str]; 5] = [&[], &["demo", "demo"], &["new"], &["Demo"], &["--help"]];

@@ -1,3 +1,5 @@
+pub mod OwnLemmas
+pub mod PinLemmas
 pub mod RunLemmas
 pub mod SampleLemmas
-pub mod SelectLemmas
+pub mod StepLemmas

@@ -1,14 +1,171 @@
-use Rattle.std.proofs.Common.{◌≡◌, inl, inr, refl}
-use Rattle.file_rows.specs.Content.{use_of}
-use Rattle.profile_card.specs.Flat.{AreFlat}
-use Rattle.profile_card.specs.Sample.{file, sample}
+use Rattle.std.proofs.Common.{◌≡◌, ◌≢◌, ℕ, List, [], ◌∷◌, length, get_or, false, inl, inr, refl, ap, lit≤, arith, Some, None}
+use Rattle.plain_lists.specs.EachTwo.{EachTwo}
+use Rattle.std.specs.List.{AllByRecursion}
+use Rattle.apdu_codec.specs.declared.answers.Answer.{Answer}
+use Rattle.file_rows.specs.Change.{Fits}
+use Rattle.file_rows.specs.Content.{AreFiles, ArePins, IsValid, heads_of, use_of}
+use Rattle.file_rows.specs.FileHead.{IsFile, ShareName, ShareSfi}
+use Rattle.file_rows.specs.declared.change.Change.TheVariants.{PinSet}
+use Rattle.file_rows.specs.declared.head.Kind.TheVariants.{Master, Linear, Transparent}
+use Rattle.file_rows.specs.declared.pin.PinRow.{PinRow}
+use Rattle.uicc_channels.proofs.SessionLemmas.{Suits-fresh_session}
+use Rattle.uicc_channels.specs.Session.{fresh_session}
+use Rattle.profile_card.specs.Held.{MayFollow}
+use Rattle.profile_card.specs.Sample.{file, pin, sample, sample_card}
 
--- the files of the sample card are the MF and EFs in it
-pub AreFlat-sample : AreFlat sample.rows
-unfolding file
-AreFlat-sample = (inl (refl, refl), (inr ((0x2F05, refl), refl), (inr ((0x2FE2, refl), refl), (inr ((0x2F00, refl), refl), (inr ((0x2F06, refl), refl), (inr ((0x2F08, refl), refl), tt))))))
-
--- what they take of the quota
+-- what the files take of the quota
 pub use_of-sample : use_of sample.rows ≡ 781
 unfolding file
 use_of-sample = refl
+
+no_master_transparent : Transparent ≡ Master → ⊥
+no_master_transparent e = cc
+
+no_master_linear : Linear ≡ Master → ⊥
+no_master_linear e = cc
+
+-- a file in the MF isn't the MF
+in_master : (id : ℕ) → id ∷ [] ≢ []
+in_master id e = absurd (omega (arith, ap length e))
+
+not_master : (id : ℕ) → [] ≢ id ∷ []
+not_master id e = absurd (omega (arith, ap length e))
+
+-- two of other identifiers aren't one
+apart : (a b : ℕ) → a ≢ b → a ∷ [] ≢ b ∷ []
+apart a b other e = other (ap (λ (path : List ℕ). get_or path 0 0) e)
+
+each_file : AllByRecursion IsFile (heads_of sample.rows)
+unfolding file
+each_file = (
+  record { depth = lit≤ tt; form = record { path = refl; name = refl; bare = record { size = refl; record_len = refl; sfi = refl } } },
+  (
+    record { depth = lit≤ tt; form = record { path = in_master 0x2F05; name = refl; sfi = lit≤ tt; record_len = refl; smallest = lit≤ tt; largest = lit≤ tt } },
+    (
+      record { depth = lit≤ tt; form = record { path = in_master 0x2FE2; name = refl; sfi = lit≤ tt; record_len = refl; smallest = lit≤ tt; largest = lit≤ tt } },
+      (
+        record { depth = lit≤ tt; form = record { path = in_master 0x2F00; name = refl; sfi = lit≤ tt; shortest = lit≤ tt; longest = lit≤ tt; records = (4, lit≤ tt, lit≤ tt, refl) } },
+        (
+          record { depth = lit≤ tt; form = record { path = in_master 0x2F06; name = refl; sfi = lit≤ tt; shortest = lit≤ tt; longest = lit≤ tt; records = (10, lit≤ tt, lit≤ tt, refl) } },
+          (
+            record { depth = lit≤ tt; form = record { path = in_master 0x2F08; name = refl; sfi = lit≤ tt; record_len = refl; smallest = lit≤ tt; largest = lit≤ tt } },
+            tt,
+          ),
+        ),
+      ),
+    ),
+  ),
+)
+
+sample_paths : EachTwo (λ one other. one.path ≢ other.path) (heads_of sample.rows)
+unfolding file
+sample_paths = (
+  (not_master 0x2F05, (not_master 0x2FE2, (not_master 0x2F00, (not_master 0x2F06, (not_master 0x2F08, tt))))),
+  (
+    (
+      apart 0x2F05 0x2FE2 (λ e. omega (arith, e)),
+      (apart 0x2F05 0x2F00 (λ e. omega (arith, e)), (apart 0x2F05 0x2F06 (λ e. omega (arith, e)), (apart 0x2F05 0x2F08 (λ e. omega (arith, e)), tt))),
+    ),
+    (
+      (apart 0x2FE2 0x2F00 (λ e. omega (arith, e)), (apart 0x2FE2 0x2F06 (λ e. omega (arith, e)), (apart 0x2FE2 0x2F08 (λ e. omega (arith, e)), tt))),
+      (
+        (apart 0x2F00 0x2F06 (λ e. omega (arith, e)), (apart 0x2F00 0x2F08 (λ e. omega (arith, e)), tt)),
+        ((apart 0x2F06 0x2F08 (λ e. omega (arith, e)), tt), (tt, tt)),
+      ),
+    ),
+  ),
+)
+
+sample_sfis : EachTwo (λ one other. ¬ ShareSfi one other) (heads_of sample.rows)
+unfolding file
+sample_sfis = (
+  ((λ s. s.given refl), ((λ s. s.given refl), ((λ s. s.given refl), ((λ s. s.given refl), ((λ s. s.given refl), tt))))),
+  (
+    ((λ s. absurd (omega (arith, s.same))), ((λ s. absurd (omega (arith, s.same))), ((λ s. absurd (omega (arith, s.same))), ((λ s. absurd (omega (arith, s.same))), tt)))),
+    (
+      ((λ s. absurd (omega (arith, s.same))), ((λ s. absurd (omega (arith, s.same))), ((λ s. absurd (omega (arith, s.same))), tt))),
+      (
+        ((λ s. absurd (omega (arith, s.same))), ((λ s. absurd (omega (arith, s.same))), tt)),
+        (((λ s. absurd (omega (arith, s.same))), tt), (tt, tt)),
+      ),
+    ),
+  ),
+)
+
+sample_names : EachTwo (λ one other. ¬ ShareName one other) (heads_of sample.rows)
+unfolding file
+sample_names = (
+  ((λ s. s.given refl), ((λ s. s.given refl), ((λ s. s.given refl), ((λ s. s.given refl), ((λ s. s.given refl), tt))))),
+  (
+    ((λ s. s.given refl), ((λ s. s.given refl), ((λ s. s.given refl), ((λ s. s.given refl), tt)))),
+    (
+      ((λ s. s.given refl), ((λ s. s.given refl), ((λ s. s.given refl), tt))),
+      (((λ s. s.given refl), ((λ s. s.given refl), tt)), (((λ s. s.given refl), tt), (tt, tt))),
+    ),
+  ),
+)
+
+sample_files : AreFiles sample.rows
+unfolding file
+sample_files = record {
+  tree = (
+    refl,
+    (no_master_transparent, (no_master_transparent, (no_master_linear, (no_master_linear, (no_master_transparent, tt))))),
+    (
+      (0, _, lit≤ tt, refl, record { kind = refl; path = (0x2F05, refl) }),
+      (
+        (0, _, lit≤ tt, refl, record { kind = refl; path = (0x2FE2, refl) }),
+        (
+          (0, _, lit≤ tt, refl, record { kind = refl; path = (0x2F00, refl) }),
+          (
+            (0, _, lit≤ tt, refl, record { kind = refl; path = (0x2F06, refl) }),
+            (
+              (0, _, lit≤ tt, refl, record { kind = refl; path = (0x2F08, refl) }),
+              tt,
+            ),
+          ),
+        ),
+      ),
+    ),
+  );
+  each = each_file;
+  bodies = (refl, (refl, (refl, (refl, (refl, (refl, tt))))));
+  paths = sample_paths;
+  sfis = sample_sfis;
+  names = sample_names;
+}
+
+sample_pins : ArePins (heads_of sample.rows) sample.pins
+unfolding file
+sample_pins = record {
+  each = (
+    record { smallest = lit≤ tt; largest = lit≤ tt; key = inl (inl (lit≤ tt, lit≤ tt), refl); tries = record { some = lit≤ tt; few = lit≤ tt; left = lit≤ tt }; puk = tt },
+    (record { smallest = lit≤ tt; largest = lit≤ tt; key = inl (inr (inl (lit≤ tt, lit≤ tt)), refl); tries = record { some = lit≤ tt; few = lit≤ tt; left = lit≤ tt }; puk = tt }, tt),
+  );
+  homes = ((0, _, lit≤ tt, refl, (refl, refl)), ((0, _, lit≤ tt, refl, (refl, refl)), tt));
+  numbers = (((λ e. omega (arith, e)), tt), (tt, tt));
+  keys = (((λ s. absurd (omega (arith, s.key))), tt), (tt, tt));
+}
+
+-- a card may hold it
+pub IsValid-sample : IsValid sample
+IsValid-sample = record {
+  quota = rw use_of-sample (lit≤ tt);
+  few_pins = lit≤ tt;
+  system = inr (record { files = sample_files; pins = sample_pins });
+}
+
+-- its second PIN, of key 0A
+abbrev pub second_pin : PinRow
+second_pin = pin 2 0x0A (0x38 ∷ 0x38 ∷ 0x38 ∷ 0x38 ∷ 0x38 ∷ 0x38 ∷ 0x38 ∷ 0x38 ∷ [])
+
+-- it may be set to what it is
+pub Fits-second_pin : Fits sample (PinSet second_pin)
+Fits-second_pin = record {
+  place = (1, _, lit≤ tt, refl, record { number = refl; home = refl; key = refl });
+  after = IsValid-sample;
+}
+
+pub MayFollow-second_pin : (answer : Answer) → MayFollow sample_card (record { answer = answer; session = fresh_session false None; change = Some (PinSet second_pin) })
+MayFollow-second_pin answer =
+    record { change = Fits-second_pin; session = Suits-fresh_session sample false None IsValid-sample }

@@ -1,27 +1,36 @@
-use Rattle.std.specs.Prelude.{Bool, true, false, []}
-use Rattle.apdu_codec.specs.declared.answers.Answer.{Answer}
-use Rattle.apdu_codec.specs.declared.commands.Class.{Class}
-use Rattle.apdu_codec.specs.declared.commands.Class.TheVariants.{Standard, Special}
-use Rattle.apdu_codec.specs.declared.status.Sw.{Sw}
+use Rattle.std.specs.Prelude.{ℕ, Bool, false, Option, Some, None, option_map, unwrap_or}
+use Rattle.file_rows.specs.Change.{changed}
+use Rattle.file_rows.specs.Content.{IsValid}
+use Rattle.file_rows.specs.declared.change.Change.{Change}
 use Rattle.file_rows.specs.declared.content.Content.{Content}
-use Rattle.profile_card.specs.Needs.{Needs}
-use Rattle.profile_card.specs.declared.session.Session.{Session}
+use Rattle.port_table.specs.declared.port_mode.PortMode.{PortMode}
+use Rattle.uicc_channels.specs.Session.{Suits}
+use Rattle.uicc_channels.specs.declared.decided.Decided.{Decided}
+use Rattle.uicc_channels.specs.declared.session.Session.{Session}
+use Rattle.profile_card.specs.Place.{has_isdr}
 
--- a card of one profile
+-- a card of one profile: what it holds, its session, how the ports are shared, and its port, where it stands on one
 pub record Card : Type 0 where
   pub content : Content
   pub session : Session
+  pub mode : PortMode
+  pub port : Option ℕ
 
--- one instruction at a card: what it needs, and what it answers and leaves where nothing refuses it
-pub record Row : Type 0 where
-  pub needs : Needs
-  pub answer : Answer
-  pub session : Session
+-- whether the ISD-R may be selected at the card
+abbrev pub isdr_here : Card → Bool
+isdr_here card = unwrap_or (option_map (has_isdr card.mode) card.port) false
 
-abbrev pub is_standard : Class → Bool
-is_standard Standard = true
-is_standard Special = false
+-- the card holds what a card may hold, and its session names what is there
+pub record IsSound (card : Card) : Type 0 where
+  pub content : IsValid card.content
+  pub session : Suits card.session card.content.rows
 
--- a status word alone
-abbrev pub status : Sw → Answer
-status sw = record { body = []; sw = sw }
+-- a content with a change made, where there is one
+abbrev pub content_after : Content → Option Change → Content
+content_after content None = content
+content_after content (Some change) = changed content change
+
+-- the card once what a command comes to is carried out
+abbrev pub settled : Card → Decided → Card
+settled card decided =
+    record card { content = content_after card.content decided.change; session = decided.session }

@@ -1,7 +1,8 @@
 pub mod Card
-pub mod Flat
-pub mod Needs
+pub mod Commands
+pub mod Held
+pub mod Own
+pub mod Place
 pub mod ReadBinary
 pub mod Sample
-pub mod Select
 pub mod Step

@@ -1,18 +1,20 @@
-use Rattle.std.specs.Prelude.{ℕ, ◌+◌, ◌-◌, ◌*◌, min, Bool, true, false, ◌==◌, ◌&&◌, ◌||◌, nat_lt, nat_le, if◌then◌else◌, List, [], length, take, drop, Option, Some, None, option_and_then, option_map, unwrap_or, is_some}
+use Rattle.std.specs.Prelude.{ℕ, ◌+◌, ◌-◌, ◌*◌, Bool, true, false, ◌==◌, ◌&&◌, ◌||◌, nat_lt, nat_le, if◌then◌else◌, List, [], length, take, drop, Option, Some, None, option_and_then, option_map, unwrap_or, is_some}
 use Rattle.apdu_codec.specs.Command.{Spoken}
 use Rattle.apdu_codec.specs.declared.status.Sw.{Sw}
 use Rattle.apdu_codec.specs.declared.status.TheConstants.Sw.{CONDITIONS_NOT_SATISFIED, DATA_BLOCKED, NO_CURRENT_EF, OK, WRONG_OFFSET}
-use Rattle.file_rows.specs.Content.{file_at}
-use Rattle.file_rows.specs.declared.content.Content.{Content}
-use Rattle.file_rows.specs.declared.head.FileHead.{FileHead}
 use Rattle.file_rows.specs.declared.head.Kind.{Kind}
 use Rattle.file_rows.specs.declared.head.Kind.TheVariants.{Master, Directory, Application, Transparent, Linear, Cyclic}
 use Rattle.file_rows.specs.declared.head.Life.{Life}
 use Rattle.file_rows.specs.declared.head.Life.TheVariants.{Active, Deactivated, Terminated}
 use Rattle.file_rows.specs.declared.head.Rule.{Rule}
 use Rattle.file_rows.specs.declared.row.FileRow.{FileRow}
-use Rattle.profile_card.specs.Card.{Row, is_standard, status}
-use Rattle.profile_card.specs.declared.session.Session.{Session}
+use Rattle.uicc_channels.specs.Answer.{wrong_le}
+use Rattle.uicc_channels.specs.Chan.{current_file}
+use Rattle.uicc_channels.specs.Row.{Row}
+use Rattle.uicc_channels.specs.Session.{channel_at}
+use Rattle.uicc_channels.specs.declared.session.Session.{Session}
+use Rattle.uicc_select.specs.Select.{is_standard}
+use Rattle.uicc_select.specs.Status.{chan_of}
 
 abbrev pub is_transparent : Kind → Bool
 is_transparent Master = false
@@ -34,10 +36,6 @@ abbrev pub may_read : Option Rule → Bool
 may_read None = false
 may_read (Some rule) = (rule.row == 1) || (rule.row == 2)
 
--- `6CXX`: how many bytes can be had
-abbrev pub wrong_le : ℕ → Sw
-wrong_le count = record { 0 = 0x6C00 + count }
-
 -- why a body can't be read from an offset, wanting so many bytes: 256 is what an Le of 00 asks for, as many as there are
 abbrev pub read_refusal : List ℕ → ℕ → ℕ → Option Sw
 read_refusal body offset le =
@@ -46,20 +44,16 @@ read_refusal body offset le =
     else if nat_lt (length body - offset) le then Some (wrong_le (length body - offset))
     else None
 
--- the current EF, where there is one
-abbrev pub current : Content → Session → Option FileRow
-current content session = option_and_then (λ path. file_at path content.rows) session.file
-
 -- ETSI TS 102 221, READ BINARY from an offset
-abbrev pub read_binary : Content → Session → Spoken → Row
-read_binary content session c =
-    let file = current content session in
+abbrev pub read_binary_row : List FileRow → Session → Spoken → Row
+read_binary_row rows session c =
+    let file = current_file rows (chan_of session c) in
     let body = unwrap_or (option_map (λ row. row.body) file) [] in
     let offset = c.p1 * 256 + c.p2 in
     let le = unwrap_or c.le 0 in
     record {
       needs = record {
-        channel = c.channel == 0;
+        channel = is_some (channel_at session c.channel);
         instruction = true;
         class = is_standard c.class;
         parameters = nat_lt c.p1 128;
@@ -70,6 +64,5 @@ read_binary content session c =
         access = unwrap_or (option_map (λ row. may_read row.head.rule) file) false;
         own = read_refusal body offset le;
       };
-      answer = record { body = take le (drop offset body); sw = OK };
-      session = session;
+      done = record { answer = record { body = take le (drop offset body); sw = OK }; session = session; change = None };
     }

@@ -1,4 +1,4 @@
-use Rattle.std.specs.Prelude.{ℕ, ◌-◌, true, List, [], ◌∷◌, ◌++◌, length, replicate, Some, None}
+use Rattle.std.specs.Prelude.{ℕ, ◌-◌, true, false, List, [], ◌∷◌, ◌++◌, length, replicate, Some, None}
 use Rattle.file_rows.specs.Path.{master}
 use Rattle.file_rows.specs.declared.content.Content.{Content}
 use Rattle.file_rows.specs.declared.head.FileHead.{FileHead}
@@ -7,8 +7,9 @@ use Rattle.file_rows.specs.declared.head.Kind.TheVariants.{Master, Linear, Trans
 use Rattle.file_rows.specs.declared.head.Life.TheVariants.{Active}
 use Rattle.file_rows.specs.declared.pin.PinRow.{PinRow}
 use Rattle.file_rows.specs.declared.row.FileRow.{FileRow}
+use Rattle.port_table.specs.declared.port_mode.PortMode.TheVariants.{A1}
+use Rattle.uicc_channels.specs.Session.{fresh_session}
 use Rattle.profile_card.specs.Card.{Card}
-use Rattle.profile_card.specs.declared.session.Session.{Session}
 
 -- an active file with a rule of the EF ARR 2F06
 abbrev pub head : List ℕ → Kind → ℕ → ℕ → ℕ → ℕ → FileHead
@@ -68,6 +69,6 @@ sample =
           ∷ [];
     }
 
--- the sample card as it starts: at the MF, with no EF
+-- the sample card as it starts: on port 1 of a card in MEP-A1, with a fresh session
 abbrev pub sample_card : Card
-sample_card = record { content = sample; session = record { directory = master; file = None } }
+sample_card = record { content = sample; session = fresh_session false None; mode = A1; port = Some 1 }

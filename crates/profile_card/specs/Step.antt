@@ -1,71 +1,66 @@
-use Rattle.std.specs.Prelude.{ℕ, ◌≡◌, ◌⊎◌, true, false, ◌==◌, if◌then◌else◌, List, [], ◌∷◌, Option, Some, None, Result, Ok, Err}
+use Rattle.std.specs.Prelude.{ℕ, ◌≡◌, ◌⊎◌, Bool, false, List, [], ◌∷◌, Option, Some, None}
 use Rattle.apdu_codec.specs.Command.{Spells, Spoken, refusal}
 use Rattle.apdu_codec.specs.declared.answers.Answer.{Answer}
-use Rattle.apdu_codec.specs.declared.status.Sw.{Sw}
-use Rattle.apdu_codec.specs.declared.status.TheConstants.Sw.{OK}
-use Rattle.file_rows.specs.declared.content.Content.{Content}
-use Rattle.plain_lists.specs.FirstOf.{first_of}
-use Rattle.profile_card.specs.Card.{Card, Row, status}
-use Rattle.profile_card.specs.Needs.{refusals}
-use Rattle.profile_card.specs.ReadBinary.{read_binary}
-use Rattle.profile_card.specs.Select.{select}
-use Rattle.profile_card.specs.declared.session.Session.{Session}
+use Rattle.file_rows.specs.declared.change.Change.{Change}
+use Rattle.uicc_channels.specs.Row.{refused}
+use Rattle.uicc_channels.specs.Session.{fresh_session}
+use Rattle.uicc_channels.specs.declared.decided.Decided.{Decided}
+use Rattle.profile_card.specs.Card.{Card, settled}
+use Rattle.profile_card.specs.Commands.{decision}
 
--- an instruction that the card doesn't know
-abbrev pub unknown : Session → Spoken → Row
-unknown session c =
-    record {
-      needs = record {
-        channel = c.channel == 0;
-        instruction = false;
-        class = true;
-        parameters = true;
-        lengths = true;
-        file = None;
-        kind = true;
-        life = None;
-        access = true;
-        own = None;
-      };
-      answer = status OK;
-      session = session;
-    }
+-- what comes to a card: a command APDU, a reset of its port, a power cycle, and that it comes to stand on a port or
+-- leaves it (GSMA SGP.22, Multiple Enabled Profiles). With a new port a REFRESH may be asked for, and a channel kept.
+pub data Event : Type 0 where
+  Command : List ℕ → Event
+  Reset : Event
+  Power : Event
+  Bound : ℕ → Bool → Option ℕ → Event
+  Unbound : Event
 
--- the row of a command's instruction
-abbrev pub row_of : Content → Session → Spoken → Row
-row_of content session c =
-    if c.ins == 0xA4 then select content session c
-    else if c.ins == 0xB0 then read_binary content session c
-    else unknown session c
-
--- what a card answered, and the card after it
+-- what comes of it: an answer, the card after it, and what was changed in its content
 pub record Outcome : Type 0 where
-  pub answer : Answer
+  pub answer : Option Answer
   pub card : Card
+  pub change : Option Change
 
--- refused with the first status word of the order, which changes nothing, or done
-abbrev pub settled : Option Sw → Card → Row → Outcome
-settled None card row =
-    record { answer = row.answer; card = record { content = card.content; session = row.session } }
-settled (Some sw) card row = record { answer = status sw; card = card }
+-- nothing is answered, and nothing changed in the content
+abbrev pub silent : Card → Outcome
+silent card = record { answer = None; card = card; change = None }
 
--- what came of an instruction is what its row says
-abbrev pub Follows : Row → Session → Result Answer Sw → Session → Type 0
-Follows row before (Ok answer) after =
-    (first_of (refusals row.needs) ≡ None) × (answer ≡ row.answer) × (after ≡ row.session)
-Follows row before (Err sw) after = (first_of (refusals row.needs) ≡ Some sw) × (after ≡ before)
-
--- one command at a card
-abbrev pub step : Card → Spoken → Outcome
-step card c =
-    let row = row_of card.content card.session c in
-    settled (first_of (refusals row.needs)) card row
+abbrev pub answering : Card → Decided → Outcome
+answering card decided =
+    record { answer = Some decided.answer; card = settled card decided; change = decided.change }
 
 -- what a card answers to these bytes: to a command by its instruction, and to anything else with its refusal
 abbrev pub Answers : Card → List ℕ → Outcome → Type 0
 Answers card bytes outcome =
-    ((c : Spoken) × Spells bytes c × (outcome ≡ step card c))
-    ⊎ (((c : Spoken) → ¬ Spells bytes c) × (outcome ≡ record { answer = status (refusal bytes); card = card }))
+    ((c : Spoken) × Spells bytes c × (outcome ≡ answering card (decision card c)))
+    ⊎ (((c : Spoken) → ¬ Spells bytes c) × (outcome ≡ answering card (refused card.session (refusal bytes))))
+
+-- the card after a reset of its port
+abbrev pub restarted : Card → Card
+restarted card = record card { session = fresh_session false None }
+
+-- one event at a card on this port, or on none; without a port only a new one counts
+abbrev pub StepsAt : Option ℕ → Card → Event → Outcome → Type 0
+StepsAt (Some port) card (Command bytes) outcome = Answers card bytes outcome
+StepsAt (Some port) card Reset outcome = outcome ≡ silent (restarted card)
+StepsAt (Some port) card Power outcome = outcome ≡ silent (restarted card)
+StepsAt None card (Command bytes) outcome = outcome ≡ silent card
+StepsAt None card Reset outcome = outcome ≡ silent card
+StepsAt None card Power outcome = outcome ≡ silent card
+StepsAt from card (Bound port refresh kept) outcome =
+    outcome ≡ silent (record card { session = fresh_session refresh kept; port = Some port })
+StepsAt from card Unbound outcome = outcome ≡ silent (record card { port = None })
+
+-- one event at a card
+abbrev pub Steps : Card → Event → Outcome → Type 0
+Steps card event outcome = StepsAt card.port card event outcome
+
+-- the card at a port answers these bytes so, and comes to this
+abbrev pub Gives : Card → List ℕ → Answer → Card → Type 0
+Gives card bytes answer after =
+    (change : Option Change) × Steps card (Command bytes) (record { answer = Some answer; card = after; change = change })
 
 -- to these command APDUs, one after another, the card gives these answers, and comes to this
 abbrev pub RunsTo : Card → List (List ℕ) → List Answer → Card → Type 0
@@ -73,7 +68,7 @@ RunsTo card [] [] after = after ≡ card
 RunsTo card [] (answer ∷ answers) after = ⊥
 RunsTo card (bytes ∷ rest) [] after = ⊥
 RunsTo card (bytes ∷ rest) (answer ∷ answers) after =
-    (next : Card) × Answers card bytes (record { answer = answer; card = next }) × RunsTo next rest answers after
+    (next : Card) × Gives card bytes answer next × RunsTo next rest answers after
 
 -- what the card answers to these command APDUs, one after another
 abbrev pub Runs : Card → List (List ℕ) → List Answer → Type 0

@@ -1,18 +1,21 @@
 //! A card that holds one profile: what it answers to commands, and what they leave (ETSI TS 102 221).
 #![tactic(auto)]
 
-mod demo_card;
+mod card1;
 mod laws;
+mod pins;
+mod place;
 mod read_binary;
-mod refusal;
 mod sample;
-mod select;
-mod session;
 
-pub use demo_card::DemoCard;
+pub use card1::Card1;
 pub use file_rows::NoMemory;
-pub use laws::commands_have_one_run;
-pub use sample::sample_content;
+pub use laws::{
+    cards_stay_sound, commands_have_one_run, common_commands_are_unknown_to_the_card,
+    events_have_one_outcome,
+};
+pub use place::Place;
+pub use sample::{sample_card, sample_content};
 
 #[cfg(test)]
 mod tests;

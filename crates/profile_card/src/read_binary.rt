@@ -1,20 +1,24 @@
-ghost use Rattle.std.specs.Prelude.{◌≡◌, ◌+◌, ◌-◌, ◌<◌, ◌≤◌, ◌==◌, nat_le, nat_lt, length, option_copied, take, drop, Some, None, MatchResult};
+ghost use Rattle.std.specs.Prelude.{◌≡◌, ◌+◌, ◌-◌, ◌<◌, ◌≤◌, ◌==◌, nat_le, nat_lt, length, take, drop, Some, None, MatchResult};
 ghost use Rattle.apdu_codec.specs.Command.{IsCommand, spoken};
-ghost use Rattle.profile_card.specs.ReadBinary.{current, is_transparent, life_refusal, may_read as may_be_read, read_binary as reading, read_refusal};
-ghost use Rattle.profile_card.specs.Step.{Follows};
+ghost use Rattle.uicc_channels.specs.Row.{Follows, decided};
+ghost use Rattle.uicc_channels.specs.Session.{IsOpen};
+ghost use Rattle.uicc_tree.specs.Files.{file_of, rows_of};
+ghost use Rattle.uicc_select.specs.Gives.{Gives};
+ghost use Rattle.uicc_select.specs.Status.{chan_of};
+ghost use Rattle.uicc_channels.specs.Chan.{current_file};
+ghost use Rattle.profile_card.specs.ReadBinary.{is_transparent, life_refusal, may_read as may_be_read, read_binary_row, read_refusal};
 
-use crate::refusal::require;
-use crate::select::file_at;
-use crate::session::Session;
 use apdu_codec::{Answer, AnswerBody, Class, Command, Sw};
-use file_rows::{Content, FileRow, Kind, Life, Rule};
+use file_rows::{Kind, Life, Rule};
+use uicc_channels::{Chan, Decided, Session, conclude, require};
+use uicc_tree::Tree;
 
 // The current EF, where there is one.
-fn current_file<'a>(content: &'a Content, session: &Session) -> Option<&'a FileRow>
-    ensures { option_copied result ≡ current content.now session.now }
+fn find_current(tree: &Tree, chan: &Chan) -> Option<u32>
+    ensures { Gives tree.now result (current_file (rows_of tree.now) chan.now) }
 {
-    let path = session.file.as_ref()?;
-    file_at(content.rows.as_slice(), path.as_slice())
+    let path = chan.file.as_ref()?;
+    tree.find(path.as_slice())
 }
 
 // Refuses a file whose body can't be used.
@@ -55,30 +59,39 @@ fn read_from(body: &[u8], offset: usize, le: u16) -> Result<AnswerBody, Sw>
 }
 
 /// READ BINARY from an offset (ETSI TS 102 221).
-pub(crate) fn read_binary(
-    content: &Content,
-    session: &Session,
-    command: &Command,
-) -> Result<Answer, Sw>
-    requires open { command.now.channel ≡ 0 }
+pub(crate) fn read_binary(tree: &Tree, session: &Session, command: &Command) -> Decided
+    requires open { IsOpen session.now command.now.channel }
     requires spelled { IsCommand command.now }
-    ensures { Follows (reading content.now session.now (spoken command.now)) session.now result session.now }
+    ensures { result ≡ decided session.now (read_binary_row (rows_of tree.now) session.now (spoken command.now)) }
+{
+    conclude(session, read(tree, session, command))
+}
+
+fn read(tree: &Tree, session: &Session, command: &Command) -> Result<Decided, Sw>
+    requires open { IsOpen session.now command.now.channel }
+    requires spelled { IsCommand command.now }
+    ensures { Follows (read_binary_row (rows_of tree.now) session.now (spoken command.now)) result }
 {
     require(command.class == Class::Standard, Sw::WRONG_CLASS)?;
     require(command.p1 < 0x80, Sw::WRONG_P1_P2)?;
     let (true, Some(le)) = (command.body.is_empty(), command.le) else {
         return Err(Sw::WRONG_LENGTH);
     };
-    let Some(file) = current_file(content, session) else {
+    let Some(chan) = session.channel_at(command.channel) else {
+        unreachable!()
+    };
+    let Some(node) = find_current(tree, chan) else {
         return Err(Sw::NO_CURRENT_EF);
     };
-    require(
-        file.head.kind == Kind::Transparent,
-        Sw::INCOMPATIBLE_STRUCTURE,
-    )?;
-    require_active(file.head.life)?;
-    require(may_read(file.head.rule), Sw::SECURITY_NOT_SATISFIED)?;
+    let head = tree.head(node);
+    require(head.kind == Kind::Transparent, Sw::INCOMPATIBLE_STRUCTURE)?;
+    require_active(head.life)?;
+    require(may_read(head.rule), Sw::SECURITY_NOT_SATISFIED)?;
     let offset = usize::from(u16::from_be_bytes([command.p1, command.p2]));
-    let body = read_from(file.body.as_slice(), offset, le)?;
-    Ok(Answer { body, sw: Sw::OK })
+    let body = read_from(tree.bytes(node), offset, le)?;
+    Ok(Decided {
+        answer: Answer { body, sw: Sw::OK },
+        session: session.copy(),
+        change: None,
+    })
 }

@@ -1,11 +1,15 @@
 //! The content of the sample card.
 ghost use Rattle.std.specs.Prelude.{◌≡◌, ◌≤◌, length, IfOk};
 ghost use Rattle.file_rows.specs.Content.{use_of};
-ghost use Rattle.profile_card.specs.Sample.{file, head, pin, sample};
+ghost use Rattle.profile_card.specs.Held.{card_of};
+ghost use Rattle.profile_card.specs.Sample.{file, head, pin, sample, sample_card};
 
+use crate::{Card1, Place};
 use file_rows::{Content, FileHead, FileRow, Kind, Life, Name, NoMemory, Path, PinRow, Rule};
 use plain_lists::LongList;
+use port_table::PortMode;
 use std::alloc::Global;
+use uicc_channels::fresh;
 
 const ICCID: [u8; 10] = [0x98, 0x94, 0, 0, 0, 0, 0, 0, 0, 0xF1];
 
@@ -128,4 +132,16 @@ pub fn sample_content(alloc: Global) -> Result<Content, NoMemory>
         rows: LongList::from(rows),
         pins: LongList::from(pins),
     })
+}
+
+/// The sample card: on port 1 of a card in MEP-A1, with a fresh session.
+pub fn sample_card(alloc: Global) -> Result<Card1, NoMemory>
+    ensures { IfOk result (λ card. card_of card ≡ sample_card) }
+{
+    let content = sample_content(alloc)?;
+    let place = Place {
+        port: 1,
+        mode: PortMode::A1,
+    };
+    Card1::start(alloc, &content, fresh(false, None), place)
 }

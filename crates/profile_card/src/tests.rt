@@ -1,16 +1,70 @@
-//! What no clause says: the sample card as the worked examples have it.
-use super::*;
-use apdu_codec::{Answer, read_command};
-use file_rows::used;
-use std::test::Fail;
+//! What no clause says: the sample card and a card with an application as the worked examples have them, and each call
+//! once.
+ghost use Rattle.std.specs.Prelude.{◌≡◌, ◌≤◌, [], ◌∷◌, length};
+ghost use Rattle.file_rows.specs.Content.{IsValid};
+ghost use Rattle.profile_card.specs.Held.{card_of};
+ghost use Rattle.profile_card.specs.Sample.{pin, sample_card};
 
-// The answer to a command, as its body and its status word.
-fn ask(card: &mut DemoCard, bytes: &[u8]) -> Answer {
-    match read_command(bytes) {
-        Ok(command) => card.answer(&command),
-        Err(sw) => Answer::status(sw),
+use super::*;
+use apdu_codec::{Answer, Sw, read_command};
+use file_rows::{Change, Content, FileHead, FileRow, Kind, Life, Name, Path, PinRow, Rule, used};
+use plain_lists::LongList;
+use port_table::PortMode;
+use std::alloc::Global;
+use std::test::Fail;
+use uicc_channels::{Decided, fresh};
+
+const PORT_1_OF_A1: Place = Place {
+    port: 1,
+    mode: PortMode::A1,
+};
+
+const PORT_1_OF_B: Place = Place {
+    port: 1,
+    mode: PortMode::B,
+};
+
+const SELECT_ISDR: &[u8] =
+    b"\x00\xA4\x04\x00\x10\xA0\x00\x00\x05\x59\x10\x10\xFF\xFF\xFF\xFF\x89\x00\x00\x01\x00";
+
+const USIM_NAME: &[u8; 16] = b"\xA0\x00\x00\x00\x87\x10\x02\xFF\xFF\xFF\xFF\x89\x00\x00\x01\x00";
+
+// A command, and the answer to it: its body and its status word.
+type Row = (&'static [u8], &'static [u8], u16);
+
+// The answer to a command, which is carried out.
+fn ask(card: &mut Card1, bytes: &[u8]) -> Result<Answer, Fail> {
+    let command = match read_command(bytes) {
+        Ok(command) => command,
+        Err(sw) => return Ok(Answer::status(sw)),
+    };
+    let decided = card.decide(&command);
+    if let Some(change) = &decided.change {
+        card.reserve(change)?;
     }
+    card.settle(&decided);
+    Ok(decided.answer)
 }
+
+// Whether the card gives these answers, one after another; if not, the number of the first that it doesn't give.
+fn first_other(card: &mut Card1, rows: &[Row]) -> Result<Option<usize>, Fail> {
+    for (index, (bytes, body, sw)) in rows.iter().enumerate() {
+        let answer = ask(card, bytes)?;
+        if answer.body.as_slice() != *body || answer.sw != Sw(*sw) {
+            return Ok(Some(index));
+        }
+    }
+    Ok(None)
+}
+
+const MASTER_PARAMETERS: &[u8] =
+    b"\x62\x20\x82\x02\x78\x21\x83\x02\x3F\x00\xA5\x03\x80\x01\x71\x8A\x01\x05\x8B\x03\x2F\x06\x01\xC6\x09\x90\x01\xC0\x83\x01\x01\x83\x01\x0A";
+
+const ICCID_PARAMETERS: &[u8] =
+    b"\x62\x17\x82\x02\x41\x21\x83\x02\x2F\xE2\x8A\x01\x05\x8B\x03\x2F\x06\x01\x80\x02\x00\x0A\x88\x01\x10";
+
+const USIM_PARAMETERS: &[u8] =
+    b"\x62\x32\x82\x02\x78\x21\x83\x02\x7F\xD0\x84\x10\xA0\x00\x00\x00\x87\x10\x02\xFF\xFF\xFF\xFF\x89\x00\x00\x01\x00\xA5\x03\x80\x01\x71\x8A\x01\x05\x8B\x03\x2F\x06\x01\xC6\x09\x90\x01\xC0\x83\x01\x01\x83\x01\x0A";
 
 #[test]
 fn the_sample_card_uses_781_bytes_of_its_quota(rt: HostRuntime) -> Result<(), Fail> {
@@ -22,35 +76,209 @@ fn the_sample_card_uses_781_bytes_of_its_quota(rt: HostRuntime) -> Result<(), Fa
 }
 
 #[test]
-fn a_file_for_key_01_is_selected_and_not_read(rt: HostRuntime) -> Result<(), Fail> {
-    let mut card = DemoCard::start(rt.alloc())?;
-    let rows: [(&[u8], u16); 5] = [
-        (&[0x00, 0xB0, 0x00, 0x00, 0x05], 0x6986),
-        (&[0x00, 0xA4, 0x00, 0x0C, 0x02, 0x2F, 0x08], 0x9000),
-        (&[0x00, 0xB0, 0x00, 0x00, 0x05], 0x6982),
-        (&[0x00, 0xA4, 0x00, 0x0C, 0x02, 0x6F, 0x07], 0x6A82),
-        (&[0x01, 0xA4, 0x00, 0x0C, 0x02, 0x3F, 0x00], 0x6881),
+fn the_sample_card_answers(rt: HostRuntime) -> Result<(), Fail> {
+    let mut card = sample_card(rt.alloc())?;
+    let rows: [Row; 11] = [
+        (b"\x00\xB0\x00\x00\x05", b"", 0x6986),
+        (b"\x00\xA4\x00\x0C\x02\x2F\x08", b"", 0x9000),
+        (b"\x00\xB0\x00\x00\x05", b"", 0x6982),
+        (b"\x00\xA4\x00\x0C\x02\x6F\x07", b"", 0x6A82),
+        (b"\x01\xA4\x00\x0C\x02\x3F\x00", b"", 0x6881),
+        (
+            b"\x00\xA4\x00\x04\x02\x3F\x00\x00",
+            MASTER_PARAMETERS,
+            0x9000,
+        ),
+        (b"\x00\xA4\x00\x04\x02\x3F\x00", b"", 0x6122),
+        (b"\x00\xA4\x00\x0C\x02\x2F\x05", b"", 0x9000),
+        (b"\x00\xB0\x00\x00\x00", b"\xFF\xFF", 0x9000),
+        (b"\x80\x7A\x00\x00\x03", b"", 0x6D00),
+        (SELECT_ISDR, b"", 0x6A82),
     ];
-    for (bytes, sw) in &rows {
-        let answer = ask(&mut card, bytes);
-        assert_eq!(rt; answer.sw.0, *sw, "at {bytes:?}");
-        assert!(rt; answer.body.is_empty());
+    assert_eq!(rt; first_other(&mut card, &rows)?, None);
+    Ok(())
+}
+
+#[test]
+fn a_reset_puts_the_card_back_to_the_mf(rt: HostRuntime) -> Result<(), Fail> {
+    let mut card = sample_card(rt.alloc())?;
+    let selected = ask(&mut card, b"\x00\xA4\x00\x0C\x02\x2F\x05")?;
+    assert_eq!(rt; selected.sw, Sw::OK);
+    card.reset(false, None);
+    assert_eq!(rt; ask(&mut card, b"\x00\xB0\x00\x00\x00")?.sw, Sw(0x6986));
+    Ok(())
+}
+
+fn make_row(
+    alloc: Global,
+    path: &[u16],
+    kind: Kind,
+    sfi: u8,
+    name: &[u8],
+    body: &[u8],
+) -> Result<FileRow, NoMemory>
+    requires path { length path.now ≤ 4 }
+    requires name { length name.now ≤ 16 }
+    requires body { length body.now ≤ 65535 }
+{
+    Ok(FileRow {
+        head: FileHead {
+            path: Path::from_slice(path),
+            kind,
+            life: Life::Active,
+            sfi,
+            name: Name::from_slice(name),
+            rule: Some(Rule {
+                file: 0x2F06,
+                row: 1,
+            }),
+            record_len: 0,
+            size: body.len() as u16,
+        },
+        body: LongList::from(Vec::from_slice(alloc, body)?),
+    })
+}
+
+fn make_pin(number: u8, key: u8) -> PinRow
+    ensures { result ≡ pin number key (0x38 ∷ 0x38 ∷ 0x38 ∷ 0x38 ∷ 0x38 ∷ 0x38 ∷ 0x38 ∷ 0x38 ∷ []) }
+{
+    PinRow {
+        number,
+        home: Path::new(),
+        key,
+        value: [0x38; 8],
+        max: 3,
+        left: 3,
+        enabled: true,
+        puk: None,
     }
+}
+
+// An MF with an EF and an application that has an EF too.
+fn content_with_application(alloc: Global) -> Result<Content, NoMemory> {
+    let iccid = b"\x98\x94\x00\x00\x00\x00\x00\x00\x00\xF2";
+    let rows = [
+        make_row(alloc, &[], Kind::Master, 0, b"", b"")?,
+        make_row(alloc, &[0x2FE2], Kind::Transparent, 2, b"", iccid)?,
+        make_row(alloc, &[0x7FD0], Kind::Application, 0, USIM_NAME, b"")?,
+        make_row(
+            alloc,
+            &[0x7FD0, 0x6F07],
+            Kind::Transparent,
+            7,
+            b"",
+            &[0xFF; 9],
+        )?,
+    ];
+    let pins = [make_pin(1, 0x01), make_pin(2, 0x0A)];
+    Ok(Content {
+        rows: LongList::from(Vec::from_array(alloc, rows)?),
+        pins: LongList::from(Vec::from_array(alloc, pins)?),
+    })
+}
+
+// A card with this content, with a fresh session.
+fn start(alloc: Global, content: &Content) -> Result<Card1, NoMemory>
+    requires { IsValid content.now }
+{
+    Card1::start(alloc, content, fresh(false, None), PORT_1_OF_A1)
+}
+
+#[test]
+fn a_modem_finds_the_application(rt: HostRuntime) -> Result<(), Fail> {
+    let content = content_with_application(rt.alloc())?;
+    if !content.is_valid() {
+        return Err(Fail::from("the content is none of a card"));
+    }
+    let mut card = start(rt.alloc(), &content)?;
+    let rows: [Row; 9] = [
+        (
+            b"\x00\xA4\x00\x04\x02\x3F\x00\x00",
+            MASTER_PARAMETERS,
+            0x9000,
+        ),
+        (b"\x80\xF2\x00\x01\x00", b"", 0x6A88),
+        (
+            b"\x00\xA4\x00\x04\x02\x2F\xE2\x00",
+            ICCID_PARAMETERS,
+            0x9000,
+        ),
+        (
+            b"\x00\xB0\x00\x00\x0A",
+            b"\x98\x94\x00\x00\x00\x00\x00\x00\x00\xF2",
+            0x9000,
+        ),
+        (
+            b"\x00\xA4\x04\x04\x10\xA0\x00\x00\x00\x87\x10\x02\xFF\xFF\xFF\xFF\x89\x00\x00\x01\x00\x00",
+            USIM_PARAMETERS,
+            0x9000,
+        ),
+        (b"\x80\xF2\x00\x00\x00", USIM_PARAMETERS, 0x9000),
+        (
+            b"\x80\xF2\x00\x01\x12",
+            b"\x84\x10\xA0\x00\x00\x00\x87\x10\x02\xFF\xFF\xFF\xFF\x89\x00\x00\x01\x00",
+            0x9000,
+        ),
+        (b"\x00\xA4\x08\x0C\x04\x7F\xFF\x6F\x07", b"", 0x9000),
+        (b"\x80\xF2\x00\x0C", b"", 0x9000),
+    ];
+    assert_eq!(rt; first_other(&mut card, &rows)?, None);
     Ok(())
 }
 
 #[test]
-fn the_preferred_languages_are_read(rt: HostRuntime) -> Result<(), Fail> {
-    let mut card = DemoCard::start(rt.alloc())?;
-    let selected = ask(&mut card, &[0x00, 0xA4, 0x00, 0x0C, 0x02, 0x2F, 0x05]);
-    assert_eq!(rt; selected.sw.0, 0x9000);
-    let read = ask(&mut card, &[0x00, 0xB0, 0x00, 0x00, 0x00]);
-    assert_eq!(rt; read.body.as_slice(), [0xFF, 0xFF].as_slice());
-    assert_eq!(rt; read.sw.0, 0x9000);
+fn a_blank_card_has_no_file(rt: HostRuntime) -> Result<(), Fail> {
+    let mut card = blank(rt.alloc(), PORT_1_OF_B);
+    let rows: [Row; 9] = [
+        (b"\x00\xA4\x00\x0C\x02\x3F\x00", b"", 0x6A82),
+        (b"\x80\xF2\x00\x00\x00", b"", 0x6A82),
+        (b"\x80\xF2\x00\x01\x00", b"", 0x6A88),
+        (b"\x80\xF2\x00\x0C", b"", 0x9000),
+        (SELECT_ISDR, b"", 0x9000),
+        (b"\x80\xF2\x00\x0C", b"", 0x6D00),
+        (b"\x00\xB0\x00\x00\x00", b"", 0x6D00),
+        (b"\x00\xA4\x00\x0C\x02\x3F\x00", b"", 0x6A82),
+        (b"\x80\xF2\x00\x0C", b"", 0x6D00),
+    ];
+    assert_eq!(rt; first_other(&mut card, &rows)?, None);
+    let mut other = blank(rt.alloc(), PORT_1_OF_A1);
+    assert_eq!(rt; ask(&mut other, SELECT_ISDR)?.sw, Sw(0x6A82));
+    assert!(rt; PORT_1_OF_B.has_isdr() && !PORT_1_OF_A1.has_isdr());
+    Ok(())
+}
+
+fn blank(alloc: Global, place: Place) -> Card1 {
+    Card1::blank(alloc, fresh(false, None), place)
+}
+
+// Sets a PIN of the sample card to what it is.
+fn set_again(card: &mut Card1) -> Result<(), NoMemory>
+    requires { card_of card.old ≡ sample_card }
+{
+    let change = Change::PinSet {
+        row: make_pin(2, 0x0A),
+    };
+    card.reserve(&change)?;
+    card.settle(&Decided {
+        answer: Answer::status(Sw::OK),
+        session: fresh(false, None),
+        change: Some(change),
+    });
     Ok(())
 }
 
 #[test]
-fn the_law_of_runs_is_callable() {
+fn memory_is_reserved_and_a_change_made(rt: HostRuntime) -> Result<(), Fail> {
+    let mut card = sample_card(rt.alloc())?;
+    set_again(&mut card)?;
+    assert_eq!(rt; ask(&mut card, b"\x00\xA4\x00\x0C\x02\x2F\x05")?.sw, Sw::OK);
+    Ok(())
+}
+
+#[test]
+fn the_laws_of_cards_are_callable() {
+    events_have_one_outcome();
     commands_have_one_run();
+    cards_stay_sound();
+    common_commands_are_unknown_to_the_card();
 }

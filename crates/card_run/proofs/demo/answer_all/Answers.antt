@@ -9,7 +9,7 @@ use Rattle.card_run.proofs.demo.answer_all.Goals as goal
 
 pub loop-index-init : goal.loop-index-init
 loop-index-init g c = record {
-  so_far = rw (c.in_ok-card.ensures, c.in_ok-block.ensures.items) (start (g.K.Sink.written c.args.out.now));
+  so_far = rw c.in_ok-block.ensures.items (start (g.K.Sink.written c.args.out.now) c.in_ok-card.card c.in_ok-card.ensures);
   count = omega arith;
 }
 

@@ -1,0 +1,48 @@
+use Rattle.std.specs.Prelude.{List, [], Some, Option, IfSome, ⊤}
+use Rattle.file_rows.specs.Change.{Fits, changed}
+use Rattle.file_rows.specs.declared.change.Change.{Change}
+use Rattle.file_rows.specs.declared.change.Change.TheVariants.{FileAdd, FileSize}
+use Rattle.file_rows.specs.declared.content.Content.{Content}
+use Rattle.file_rows.specs.declared.pin.PinRow.{PinRow}
+use Rattle.uicc_channels.specs.Session.{Suits}
+use Rattle.uicc_channels.specs.declared.decided.Decided.{Decided}
+use Rattle.uicc_channels.specs.declared.session.Session.{Session}
+use Rattle.uicc_tree.specs.Change.{HasRoom}
+use Rattle.uicc_tree.specs.Files.{Files, rows_of}
+use Rattle.profile_card.specs.Card.{Card, content_after}
+use Rattle.profile_card.specs.declared.place.Place.{Place}
+
+-- what contracts see of a card at a port: its files, with the memory that is reserved among them, its PINs, its session
+-- and its place
+pub record Held : Type 0 where
+  pub tree : Files
+  pub pins : List PinRow
+  pub session : Session
+  pub place : Place
+
+abbrev pub content_of : Held → Content
+content_of held = record { rows = rows_of held.tree; pins = held.pins }
+
+-- the card that it is
+abbrev pub card_of : Held → Card
+card_of held =
+    record { content = content_of held; session = held.session; mode = held.place.mode; port = Some held.place.port }
+
+-- a card may carry out what a command comes to: the change fits it, and the session suits what it then holds
+pub record MayFollow (card : Card) (decided : Decided) : Type 0 where
+  pub change : IfSome decided.change (Fits card.content)
+  pub session : Suits decided.session (content_after card.content decided.change).rows
+
+-- the memory that a change needs is reserved
+abbrev pub HasRoomFor : Held → Option Change → Type 0
+HasRoomFor held change = IfSome change (HasRoom held.tree)
+
+-- the changes for which memory may be wanting: a new file, and a file's size
+abbrev pub TakesRoom : Change → Type 0
+TakesRoom (FileAdd head) = ⊤
+TakesRoom (FileSize path size) = ⊤
+TakesRoom _ = ⊥
+
+-- the PINs after a change of a content
+abbrev pub pins_after : List PinRow → Change → List PinRow
+pins_after pins change = (changed (record { rows = []; pins = pins }) change).pins

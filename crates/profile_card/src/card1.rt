@@ -1,0 +1,189 @@
+ghost use Rattle.std.specs.Prelude.{◌≡◌, ◌<◌, ◌==◌, [], None, Some, IfOk, IfSome, OnOk, OnErr};
+ghost use Rattle.apdu_codec.specs.Command.{IsCommand, spoken};
+ghost use Rattle.file_rows.specs.Change.{Fits};
+ghost use Rattle.file_rows.specs.Content.{IsValid};
+ghost use Rattle.uicc_channels.specs.Session.{IsOpen, Suits, fresh_session};
+ghost use Rattle.uicc_channels.specs.declared.session.TheConstants.{CHANNELS};
+ghost use Rattle.uicc_channels.specs.Row.{decided};
+ghost use Rattle.uicc_select.specs.Select.{select_row};
+ghost use Rattle.uicc_select.specs.Status.{chan_of, status_row};
+ghost use Rattle.uicc_tree.specs.Change.{HasRoom};
+ghost use Rattle.uicc_tree.specs.Files.{rows_of};
+ghost use Rattle.profile_card.specs.Card.{isdr_here, settled};
+ghost use Rattle.profile_card.specs.Commands.{IsKnownAt, decision};
+ghost use Rattle.profile_card.specs.Held.{HasRoomFor, MayFollow, TakesRoom, card_of, content_of};
+
+use crate::pins::change_pins;
+use crate::place::Place;
+use crate::read_binary::read_binary;
+use apdu_codec::{Command, Sw};
+use case_table::{case_arms, ins_rows};
+use file_rows::{Change, Content, NoMemory, PinRow, copy_pins};
+use std::alloc::Global;
+use std::marker::Model;
+use uicc_channels::{Decided, Session, fresh, refuse};
+use uicc_select::{select, status};
+use uicc_tree::Tree;
+
+/// What the card does for each row of the table of instructions.
+macro_rules! instruction {
+    (0xA4, $class:tt, ($card:expr, $command:expr)) => {
+        $card.select($command)
+    };
+    (0xF2, $class:tt, ($card:expr, $command:expr)) => {
+        $card.tell($command)
+    };
+    (0xB0, $class:tt, ($card:expr, $command:expr)) => {
+        read_binary(&$card.tree, &$card.session, $command)
+    };
+    ($ins:tt, $class:tt, ($card:expr, $command:expr)) => {
+        refuse(&$card.session, Sw::WRONG_INSTRUCTION)
+    };
+}
+
+// Whether a channel on which the ISD-R is selected knows the instruction.
+fn is_for_isdr(ins: u8) -> bool
+    ensures { result ≡ (ins == 0xA4) }
+{
+    ins == 0xA4
+}
+
+/// The card of one profile at a port, or of none: a blank card. It keeps that what its session names is among its
+/// files. Nothing of it is shared with another card.
+#[derive(Debug, Drop)]
+pub struct Card1 {
+    tree: Tree,
+    pins: Vec<PinRow>,
+    session: Session,
+    place: Place,
+}
+
+impl Model for Card1 {
+    ghost use Rattle.file_rows.specs.Content.{IsValid};
+    ghost use Rattle.uicc_channels.specs.Session.{Suits};
+    ghost use Rattle.uicc_tree.specs.Files.{rows_of};
+    ghost use Rattle.profile_card.specs.Held.{Held};
+
+    ghost Value = { Held };
+
+    ghost view = { λ c. record { tree = c.tree; pins = c.pins.items; session = c.session; place = c.place } };
+
+    ghost invariant = { λ c. IsValid (record { rows = rows_of c.tree; pins = c.pins.items }) × Suits c.session (rows_of c.tree) };
+}
+
+impl Card1 {
+    /// The card at a place that holds this content. It copies the content.
+    pub fn start(
+        alloc: Global,
+        content: &Content,
+        session: Session,
+        place: Place,
+    ) -> Result<Card1, NoMemory>
+        requires valid { IsValid content.now }
+        requires suits { Suits session content.now.rows }
+        ensures { IfOk result (λ card. card_of card ≡ record { content = content.now; session = session; mode = place.mode; port = Some place.port }) }
+    {
+        let tree = Tree::make(alloc, content.rows.as_slice())?;
+        let pins = copy_pins(alloc, content.pins.as_slice())?;
+        Ok(Card1 {
+            tree,
+            pins,
+            session,
+            place,
+        })
+    }
+
+    /// The card at a place where no profile stands: it has no file and no PIN. It takes no memory.
+    pub fn blank(alloc: Global, session: Session, place: Place) -> Card1
+        requires { Suits session [] }
+        ensures { card_of result ≡ record { content = record { rows = []; pins = [] }; session = session; mode = place.mode; port = Some place.port } }
+    {
+        Card1 {
+            tree: Tree::new(alloc),
+            pins: Vec::new(alloc),
+            session,
+            place,
+        }
+    }
+
+    /// What a command comes to: its answer, the session after it, and what it changes in the content. The card stays as
+    /// it is; `settle` carries it out.
+    ///
+    /// SELECT, STATUS and READ BINARY from an offset (ETSI TS 102 221); any other instruction is answered `6D00`, and
+    /// so is each but SELECT where the ISD-R is selected on the channel. It takes no memory, and copies the session once.
+    pub fn decide(&self, command: &Command) -> Decided
+        requires { IsCommand command.now }
+        ensures decision { result ≡ decision (card_of self.now) (spoken command.now) }
+        ensures may_follow { MayFollow (card_of self.now) result }
+    {
+        let Some(chan) = self.session.channel_at(command.channel) else {
+            return refuse(&self.session, Sw::CHANNEL_NOT_SUPPORTED);
+        };
+        if chan.isdr && !is_for_isdr(command.ins) {
+            return refuse(&self.session, Sw::WRONG_INSTRUCTION);
+        }
+        self.answer(command)
+    }
+
+    fn select(&self, command: &Command) -> Decided
+        requires { IsOpen self.now.session command.now.channel }
+        ensures { result ≡ decided self.now.session
+            (select_row (rows_of self.now.tree) self.now.pins self.now.session (isdr_here (card_of self.now)) (spoken command.now)) }
+    {
+        let isdr_here = self.place.has_isdr();
+        select(&self.tree, &self.pins, &self.session, isdr_here, command)
+    }
+
+    fn tell(&self, command: &Command) -> Decided
+        requires { IsOpen self.now.session command.now.channel }
+        ensures { result ≡ decided self.now.session (status_row (rows_of self.now.tree) self.now.pins self.now.session (spoken command.now)) }
+    {
+        status(&self.tree, &self.pins, &self.session, command)
+    }
+
+    // What a command comes to by its instruction, on an open channel that knows it.
+    fn answer(&self, command: &Command) -> Decided
+        requires spelled { IsCommand command.now }
+        requires open { IsOpen self.now.session command.now.channel }
+        requires known { IsKnownAt (chan_of self.now.session (spoken command.now)) command.now.ins }
+        ensures { result ≡ decision (card_of self.now) (spoken command.now) }
+    {
+        ins_rows!(case_arms: command.ins, instruction(self, command), refuse(&self.session, Sw::WRONG_INSTRUCTION))
+    }
+
+    /// Takes the memory that `settle` needs for a change. Without it nothing changes. Only FileAdd and FileSize need any.
+    pub fn reserve(&mut self, change: &Change) -> Result<(), NoMemory>
+        requires { Fits (content_of self.old) change.now }
+        ensures card { card_of self.new ≡ card_of self.old }
+        ensures room { OnOk result (HasRoom self.new.tree change.now) }
+        ensures refused { OnErr result (TakesRoom change.now) }
+    {
+        match change {
+            Change::FileAdd { .. } | Change::FileSize { .. } => self.tree.reserve(change),
+            _ => Ok(()),
+        }
+    }
+
+    /// Carries out what `decide` answered: the change of the content, for which memory was reserved, and the session.
+    /// It takes no memory.
+    pub fn settle(&mut self, decided: &Decided)
+        requires may_follow { MayFollow (card_of self.old) decided.now }
+        requires room { HasRoomFor self.old decided.now.change }
+        ensures { card_of self.new ≡ settled (card_of self.old) decided.now }
+    {
+        if let Some(change) = &decided.change {
+            self.tree.apply(change);
+            change_pins(&mut self.pins, change);
+        }
+        self.session = decided.session.copy();
+    }
+
+    /// Gives the card a fresh session, as `fresh` makes it, for a reset of its port, a power cycle or a new binding. It
+    /// takes no memory.
+    pub fn reset(&mut self, refresh: bool, kept: Option<u8>)
+        requires { IfSome kept (λ number. number < CHANNELS) }
+        ensures { self.new ≡ record self.old { session = fresh_session refresh kept } }
+    {
+        self.session = fresh(refresh, kept);
+    }
+}
