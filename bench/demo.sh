@@ -1,7 +1,7 @@
 #!/usr/bin/env bash
-# Answers per second and greatest resident memory of `card_run demo` on a script of 20,000 lines: a SELECT with
-# its control parameters and a READ BINARY in turn over the files of the sample card. The time of starting the program on an empty script is taken off,
-# and the same lines read by Python's bytes.fromhex give a measure of the machine.
+# Answers per second and greatest resident memory of `card_run demo` on a script of 20,000 lines: a SELECT with its
+# control parameters and a READ BINARY in turn over the files of the sample card. The time of starting the program on an
+# empty script is taken off, and the same lines read by Python's bytes.fromhex give a measure of the machine.
 set -eu
 top=$(cd "$(dirname "${BASH_SOURCE[0]}")/.." && pwd)
 "$top/card_run" demo </dev/null
