@@ -144,6 +144,8 @@ fn every_class_byte_is_read_by_the_list(rt: HostRuntime) {
         next = u16::from(row.last) + 1;
     }
     assert_eq!(rt; next, 0x100);
+    assert!(rt; Class::Standard.is_standard() && !Class::Standard.is_special());
+    assert!(rt; Class::Special.is_special() && !Class::Special.is_standard());
 }
 
 #[test]

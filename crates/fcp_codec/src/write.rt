@@ -26,12 +26,6 @@ pub fn push_field<const CAP: usize>(out: &mut ArrayVec<u8, CAP>, tag: u32, value
     let _fits = put_tlv(out, tag, value);
 }
 
-fn holds_files(kind: Kind) -> bool
-    ensures { result ≡ holds_files kind }
-{
-    matches!(kind, Kind::Master | Kind::Directory | Kind::Application)
-}
-
 fn record_count(head: &FileHead) -> u8
     requires { HoldsRecords head.now }
     ensures { result ≡ head.now.size / head.now.record_len }
@@ -62,8 +56,8 @@ fn push_descriptor(fields: &mut ArrayVec<u8, 127>, head: &FileHead)
     }
 }
 
-// The last identifier of the path, and 3F00 for the MF.
-fn own_id(path: &Path) -> u16
+/// The identifier of the file at a path: the last one of the path, and 3F00 for the MF.
+pub fn own_id(path: &Path) -> u16
     ensures { result ≡ own_id path.now }
 {
     path.as_slice().last().copied().unwrap_or(0x3F00)
@@ -127,7 +121,7 @@ fn push_last(fields: &mut ArrayVec<u8, 127>, head: &FileHead, pins: &[PinRow])
     ensures { fields.new.items ≡ fields.old.items
         ++ spelled (last_objects (holds_files head.now.kind) head.now pins.now) }
 {
-    if holds_files(head.kind) {
+    if head.kind.holds_files() {
         status::push_status(fields, head.path.as_slice(), pins);
     } else {
         push_field(fields, tags::SIZE, &head.size.to_be_bytes());
@@ -143,7 +137,7 @@ fn push_fields(fields: &mut ArrayVec<u8, 127>, head: &FileHead, pins: &[PinRow])
     push_descriptor(fields, head);
     push_field(fields, tags::IDENTIFIER, &own_id(&head.path).to_be_bytes());
     push_name(fields, &head.name);
-    push_proprietary(fields, holds_files(head.kind));
+    push_proprietary(fields, head.kind.holds_files());
     push_field(fields, tags::LIFE, &[life_byte(head.life)]);
     push_rule(fields, head.rule);
     push_last(fields, head, pins);

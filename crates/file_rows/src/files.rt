@@ -7,7 +7,7 @@ ghost use Rattle.file_rows.specs.Content.{AreFiles, AreTree, StandInEarlier, hea
 ghost use Rattle.file_rows.specs.FileHead.{Holds, IsFile, ShareName, ShareSfi};
 ghost use Rattle.file_rows.specs.Path.{IsIn};
 
-use crate::form::{holds_files, is_file, is_in};
+use crate::form::{is_file, is_in};
 use crate::{FileHead, FileRow, Kind};
 
 impl FileHead {
@@ -15,7 +15,7 @@ impl FileHead {
     pub fn holds(&self, file: &FileHead) -> bool
         ensures { IsTrue result ↔ Holds self.now file.now }
     {
-        holds_files(self.kind) && is_in(self.path.as_slice(), file.path.as_slice())
+        self.kind.holds_files() && is_in(self.path.as_slice(), file.path.as_slice())
     }
 }
 

@@ -1,16 +1,9 @@
 // Whether a file has the form of its kind.
 ghost use Rattle.std.specs.Prelude.{◌≡◌, ℕ, ◌*◌, ◌≤◌, ◌↔◌, IsTrue};
-ghost use Rattle.file_rows.specs.FileHead.{HasForm, HoldsRecords, IsApplication, IsBare, IsDirectory, IsFile, IsMaster, IsTransparent, holds_files};
+ghost use Rattle.file_rows.specs.FileHead.{HasForm, HoldsRecords, IsApplication, IsBare, IsDirectory, IsFile, IsMaster, IsTransparent};
 ghost use Rattle.file_rows.specs.Path.{IsIn};
 
 use crate::{FileHead, Kind};
-
-// Whether files of this kind hold files.
-pub fn holds_files(kind: Kind) -> bool
-    ensures { result ≡ holds_files kind }
-{
-    matches!(kind, Kind::Master | Kind::Directory | Kind::Application)
-}
 
 // Whether a path is that of a file in the directory.
 pub fn is_in(directory: &[u16], file: &[u16]) -> bool

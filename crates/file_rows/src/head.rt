@@ -1,4 +1,5 @@
 ghost use Rattle.std.specs.Prelude.{◌≡◌};
+ghost use Rattle.file_rows.specs.FileHead.{holds_files};
 
 use plain_lists::ShortList;
 
@@ -23,6 +24,15 @@ pub enum Kind {
     Linear,
     /// An elementary file of records of one length, whose record 1 is the newest.
     Cyclic,
+}
+
+impl Kind {
+    /// Whether files of this kind hold files: the MF and the dedicated files.
+    pub fn holds_files(self) -> bool
+        ensures { result ≡ holds_files self }
+    {
+        matches!(self, Kind::Master | Kind::Directory | Kind::Application)
+    }
 }
 
 /// A file's life cycle status (ETSI TS 102 222).

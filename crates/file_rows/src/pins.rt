@@ -8,7 +8,6 @@ ghost use Rattle.file_rows.specs.FileHead.{holds_files};
 ghost use Rattle.file_rows.specs.Path.{master};
 ghost use Rattle.file_rows.specs.PinRow.{AreTries, IsGlobalKey, IsLocalKey, IsPin, ShareKey};
 
-use crate::form::holds_files;
 use crate::{FileHead, FileRow, Path, PinRow, Puk};
 
 fn is_global_key(key: u8) -> bool
@@ -62,7 +61,7 @@ fn is_pin(pin: &PinRow) -> bool
 fn is_home(head: &FileHead, home: &Path) -> bool
     ensures { IsTrue result ↔ (IsTrue (holds_files head.now.kind) × (head.now.path ≡ home.now)) }
 {
-    holds_files(head.kind) && head.path == *home
+    head.kind.holds_files() && head.path == *home
 }
 
 // Whether the PIN's home is a directory of the card.

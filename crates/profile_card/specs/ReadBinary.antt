@@ -1,4 +1,5 @@
 use Rattle.std.specs.Prelude.{ℕ, ◌+◌, ◌-◌, ◌*◌, Bool, true, false, ◌==◌, ◌&&◌, ◌||◌, nat_lt, nat_le, if◌then◌else◌, List, [], length, take, drop, Option, Some, None, option_and_then, option_map, unwrap_or, is_some}
+use Rattle.apdu_codec.specs.Class.{is_standard}
 use Rattle.apdu_codec.specs.Command.{Spoken}
 use Rattle.apdu_codec.specs.declared.status.Sw.{Sw}
 use Rattle.apdu_codec.specs.declared.status.TheConstants.Sw.{CONDITIONS_NOT_SATISFIED, DATA_BLOCKED, NO_CURRENT_EF, OK, WRONG_OFFSET}
@@ -13,7 +14,6 @@ use Rattle.uicc_channels.specs.Chan.{current_file}
 use Rattle.uicc_channels.specs.Row.{Row}
 use Rattle.uicc_channels.specs.Session.{channel_at}
 use Rattle.uicc_channels.specs.declared.session.Session.{Session}
-use Rattle.uicc_select.specs.Select.{is_standard}
 use Rattle.uicc_select.specs.Status.{chan_of}
 
 abbrev pub is_transparent : Kind → Bool

@@ -8,7 +8,7 @@ ghost use Rattle.uicc_select.specs.Status.{chan_of};
 ghost use Rattle.uicc_channels.specs.Chan.{current_file};
 ghost use Rattle.profile_card.specs.ReadBinary.{is_transparent, life_refusal, may_read as may_be_read, read_binary_row, read_refusal};
 
-use apdu_codec::{Answer, AnswerBody, Class, Command, Sw};
+use apdu_codec::{Answer, AnswerBody, Command, Sw};
 use file_rows::{Kind, Life, Rule};
 use uicc_channels::{Chan, Decided, Session, conclude, require};
 use uicc_tree::Tree;
@@ -72,7 +72,7 @@ fn read(tree: &Tree, session: &Session, command: &Command) -> Result<Decided, Sw
     requires spelled { IsCommand command.now }
     ensures { Follows (read_binary_row (rows_of tree.now) session.now (spoken command.now)) result }
 {
-    require(command.class == Class::Standard, Sw::WRONG_CLASS)?;
+    require(command.class.is_standard(), Sw::WRONG_CLASS)?;
     require(command.p1 < 0x80, Sw::WRONG_P1_P2)?;
     let (true, Some(le)) = (command.body.is_empty(), command.le) else {
         return Err(Sw::WRONG_LENGTH);

@@ -1,8 +1,7 @@
 use Rattle.std.specs.Prelude.{ℕ, Bool, true, false, ◌==◌, ◌&&◌, ◌||◌, if◌then◌else◌, List, [], length, Option, Some, None, option_and_then, option_map, unwrap_or, is_some}
+use Rattle.apdu_codec.specs.Class.{is_standard}
 use Rattle.apdu_codec.specs.Command.{Spoken}
 use Rattle.apdu_codec.specs.declared.answers.Answer.{Answer}
-use Rattle.apdu_codec.specs.declared.commands.Class.{Class}
-use Rattle.apdu_codec.specs.declared.commands.Class.TheVariants.{Standard, Special}
 use Rattle.apdu_codec.specs.declared.status.Sw.{Sw}
 use Rattle.apdu_codec.specs.declared.status.TheConstants.Sw.{FILE_NOT_FOUND, OK, SELECTED_DEACTIVATED, SELECTED_TERMINATED}
 use Rattle.fcp_codec.specs.Writing.{written}
@@ -27,10 +26,6 @@ use Rattle.uicc_select.specs.Target.{is_way, target_of}
 use Rattle.uicc_select.specs.declared.selection.TheConstants.{ISDR_AID}
 use Rattle.uicc_select.specs.declared.naming.Target.{Target}
 use Rattle.uicc_select.specs.declared.naming.Target.TheVariants.{Id, Directory, Parent, Named, FromMaster, FromCurrent}
-
-abbrev pub is_standard : Class → Bool
-is_standard Standard = true
-is_standard Special = false
 
 -- P2 00 and 0C: no answer body; 04: the control parameters of the file
 abbrev pub are_of_select : ℕ → ℕ → Bool

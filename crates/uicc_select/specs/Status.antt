@@ -1,7 +1,6 @@
 use Rattle.std.specs.Prelude.{ℕ, ◌==◌, ◌&&◌, ◌||◌, if◌then◌else◌, Bool, true, false, List, [], ◌∷◌, length, Option, Some, None, option_map, unwrap_or, is_some}
+use Rattle.apdu_codec.specs.Class.{is_special}
 use Rattle.apdu_codec.specs.Command.{Spoken}
-use Rattle.apdu_codec.specs.declared.commands.Class.{Class}
-use Rattle.apdu_codec.specs.declared.commands.Class.TheVariants.{Standard, Special}
 use Rattle.apdu_codec.specs.declared.status.Sw.{Sw}
 use Rattle.apdu_codec.specs.declared.status.TheConstants.Sw.{DATA_NOT_FOUND, FILE_NOT_FOUND, OK}
 use Rattle.fcp_codec.specs.Writing.{written}
@@ -17,10 +16,6 @@ use Rattle.uicc_channels.specs.declared.chan.Chan.{Chan}
 use Rattle.uicc_channels.specs.declared.decided.Decided.{Decided}
 use Rattle.uicc_channels.specs.declared.session.Session.{Session}
 use Rattle.uicc_select.specs.Find.{file_of_path}
-
-abbrev pub is_special : Class → Bool
-is_special Standard = false
-is_special Special = true
 
 -- the channel of a command
 abbrev pub chan_of : Session → Spoken → Chan

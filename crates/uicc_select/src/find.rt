@@ -1,12 +1,11 @@
 ghost use Rattle.std.specs.Prelude.{◌≡◌, ◌≤◌, length, Some};
 ghost use Rattle.file_rows.specs.Content.{file_at};
-ghost use Rattle.file_rows.specs.FileHead.{holds_files};
-ghost use Rattle.fcp_codec.specs.Writing.{own_id};
 ghost use Rattle.uicc_tree.specs.Files.{IsLive, file_of, rows_of};
 ghost use Rattle.uicc_select.specs.Find.{child, directory_in, down, file_of_path, found, found_by_id, found_near, from_master, named, parent_of};
 ghost use Rattle.uicc_select.specs.Gives.{Gives};
 
 use crate::naming::Target;
+use fcp_codec::own_id;
 use file_rows::{Kind, Path};
 use plain_lists::ShortList;
 use uicc_channels::Chan;
@@ -17,13 +16,6 @@ pub(crate) const MASTER_FILE: u16 = 0x3F00;
 
 /// The identifier that stands for the channel's application.
 pub(crate) const CURRENT_APPLICATION: u16 = 0x7FFF;
-
-// Whether files of this kind hold files.
-pub(crate) fn holds_files(kind: Kind) -> bool
-    ensures { result ≡ holds_files kind }
-{
-    matches!(kind, Kind::Master | Kind::Directory | Kind::Application)
-}
 
 // The path of the directory that holds the file at a path.
 pub(crate) fn parent_of(path: &Path) -> Option<Path>
@@ -71,27 +63,20 @@ fn find_directory(tree: &Tree, directory: &[u16], id: u16) -> Option<u32>
     ensures { Gives tree.now result (directory_in (rows_of tree.now) directory.now id) }
 {
     let node = find_child(tree, directory, id)?;
-    if !holds_files(tree.head(node).kind) {
+    if !tree.head(node).kind.holds_files() {
         return None;
     }
     Some(node)
 }
 
-// The last identifier of the path, and 3F00 for the MF.
-fn own_id(path: &[u16]) -> u16
-    ensures { result ≡ own_id path.now }
-{
-    path.last().copied().unwrap_or(MASTER_FILE)
-}
-
 // The file at a path, where that is its identifier.
-fn find_named(tree: &Tree, id: u16, path: &[u16]) -> Option<u32>
+fn find_named(tree: &Tree, id: u16, path: &Path) -> Option<u32>
     ensures { Gives tree.now result (named (rows_of tree.now) id path.now) }
 {
     if own_id(path) != id {
         return None;
     }
-    find_at(tree, path)
+    find_at(tree, path.as_slice())
 }
 
 // From a directory: a file in it, itself, its parent, or a directory in its parent.
@@ -101,11 +86,11 @@ fn find_near(tree: &Tree, directory: &Path, id: u16) -> Option<u32>
     if let Some(node) = find_child(tree, directory.as_slice(), id) {
         return Some(node);
     }
-    if let Some(node) = find_named(tree, id, directory.as_slice()) {
+    if let Some(node) = find_named(tree, id, directory) {
         return Some(node);
     }
     let parent = parent_of(directory)?;
-    if let Some(node) = find_named(tree, id, parent.as_slice()) {
+    if let Some(node) = find_named(tree, id, &parent) {
         return Some(node);
     }
     find_directory(tree, parent.as_slice(), id)

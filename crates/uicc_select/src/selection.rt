@@ -7,12 +7,12 @@ ghost use Rattle.uicc_channels.specs.Session.{IsOpen, Suits};
 ghost use Rattle.uicc_tree.specs.Change.{AreRows};
 ghost use Rattle.uicc_tree.specs.Files.{IsLive, file_of, rows_of};
 ghost use Rattle.uicc_select.specs.Status.{chan_of};
-ghost use Rattle.uicc_select.specs.Select.{application_after, are_of_select, in_place_of_ok, is_standard, le_refusal, left_waiting, names_isdr, parameters_for, select_row, selected, selecting, selecting_isdr, standing_at};
+ghost use Rattle.uicc_select.specs.Select.{application_after, are_of_select, in_place_of_ok, le_refusal, left_waiting, names_isdr, parameters_for, select_row, selected, selecting, selecting_isdr, standing_at};
 
-use crate::find::{find, holds_files, parent_of};
+use crate::find::{find, parent_of};
 use crate::naming::{Target, is_way, target_of};
 use crate::parameters::{Parameters, parameters_of};
-use apdu_codec::{Answer, Class, Command, Sw};
+use apdu_codec::{Answer, Command, Sw};
 use file_rows::{FileHead, Life, Path, PinRow};
 use uicc_channels::{Chan, Decided, Pending, Session, conclude, delivery_answer, require};
 use uicc_tree::Tree;
@@ -24,12 +24,6 @@ pub const ISDR_AID: [u8; 16] = [
 
 /// The P2 that asks for the control parameters of the file.
 const WITH_PARAMETERS: u8 = 0x04;
-
-fn is_standard(class: Class) -> bool
-    ensures { result ≡ is_standard class }
-{
-    matches!(class, Class::Standard)
-}
 
 // Whether these P1 and P2 are those of a SELECT.
 fn are_of_select(p1: u8, p2: u8) -> bool
@@ -77,7 +71,7 @@ fn standing_at(chan: &Chan, target: &Target, head: &FileHead, pending: Pending) 
     ensures { result ≡ standing_at chan.now target.now head.now pending }
 {
     let app = application_after(&chan.app, target, &head.path);
-    if holds_files(head.kind) {
+    if head.kind.holds_files() {
         Chan {
             isdr: false,
             app,
@@ -236,7 +230,7 @@ fn choose(
     requires open { IsOpen session.now command.now.channel }
     ensures { Follows (select_row (rows_of tree.now) pins.now session.now isdr_here (spoken command.now)) result }
 {
-    require(is_standard(command.class), Sw::WRONG_CLASS)?;
+    require(command.class.is_standard(), Sw::WRONG_CLASS)?;
     require(are_of_select(command.p1, command.p2), Sw::WRONG_P1_P2)?;
     let Some(target) = target_of(command.p1, command.body) else {
         return Err(Sw::WRONG_LENGTH);

@@ -4,20 +4,14 @@ ghost use Rattle.uicc_channels.specs.Row.{Follows, decided};
 ghost use Rattle.uicc_channels.specs.Session.{IsOpen, Suits};
 ghost use Rattle.uicc_tree.specs.Change.{AreRows};
 ghost use Rattle.uicc_tree.specs.Files.{rows_of};
-ghost use Rattle.uicc_select.specs.Status.{are_of_status, is_special, name_object, name_of_application, parameters_of_directory, status_row};
+ghost use Rattle.uicc_select.specs.Status.{are_of_status, name_object, name_of_application, parameters_of_directory, status_row};
 
 use crate::find::find_path;
 use crate::parameters::{Parameters, parameters_of};
-use apdu_codec::{Answer, AnswerBody, Class, Command, Sw};
+use apdu_codec::{Answer, AnswerBody, Command, Sw};
 use file_rows::{Name, PinRow};
 use uicc_channels::{Chan, Decided, Session, conclude, deliver, require};
 use uicc_tree::Tree;
-
-fn is_special(class: Class) -> bool
-    ensures { result ≡ is_special class }
-{
-    matches!(class, Class::Special)
-}
 
 // Whether these P1 and P2 are those of a STATUS.
 fn are_of_status(p1: u8, p2: u8) -> bool
@@ -77,7 +71,7 @@ fn tell(tree: &Tree, pins: &[PinRow], session: &Session, command: &Command) -> R
     requires open { IsOpen session.now command.now.channel }
     ensures { Follows (status_row (rows_of tree.now) pins.now session.now (spoken command.now)) result }
 {
-    require(is_special(command.class), Sw::WRONG_CLASS)?;
+    require(command.class.is_special(), Sw::WRONG_CLASS)?;
     require(are_of_status(command.p1, command.p2), Sw::WRONG_P1_P2)?;
     require(command.body.is_empty(), Sw::WRONG_LENGTH)?;
     let Some(chan) = session.channel_at(command.channel) else {
