@@ -4,3 +4,6 @@
 mod port_mode;
 
 pub use port_mode::PortMode;
+
+#[cfg(test)]
+mod tests;

@@ -3,11 +3,11 @@ use Rattle.file_rows.specs.Change.{changed}
 use Rattle.file_rows.specs.Content.{IsValid}
 use Rattle.file_rows.specs.declared.change.Change.{Change}
 use Rattle.file_rows.specs.declared.content.Content.{Content}
+use Rattle.port_table.specs.PortMode.{has_isdr}
 use Rattle.port_table.specs.declared.port_mode.PortMode.{PortMode}
 use Rattle.uicc_channels.specs.Session.{Suits}
 use Rattle.uicc_channels.specs.declared.decided.Decided.{Decided}
 use Rattle.uicc_channels.specs.declared.session.Session.{Session}
-use Rattle.profile_card.specs.Place.{has_isdr}
 
 -- a card of one profile: what it holds, its session, how the ports are shared, and its port, where it stands on one
 pub record Card : Type 0 where

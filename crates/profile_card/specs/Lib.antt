@@ -2,7 +2,6 @@ pub mod Card
 pub mod Commands
 pub mod Held
 pub mod Own
-pub mod Place
 pub mod ReadBinary
 pub mod Sample
 pub mod Step

@@ -130,7 +130,7 @@ impl Card1 {
         ensures { result ≡ decided self.now.session
             (select_row (rows_of self.now.tree) self.now.pins self.now.session (isdr_here (card_of self.now)) (spoken command.now)) }
     {
-        let isdr_here = self.place.has_isdr();
+        let isdr_here = self.place.mode.has_isdr(self.place.port);
         select(&self.tree, &self.pins, &self.session, isdr_here, command)
     }
 

@@ -243,7 +243,6 @@ fn a_blank_card_has_no_file(rt: HostRuntime) -> Result<(), Fail> {
     assert_eq!(rt; first_other(&mut card, &rows)?, None);
     let mut other = blank(rt.alloc(), PORT_1_OF_A1);
     assert_eq!(rt; ask(&mut other, SELECT_ISDR)?.sw, Sw(0x6A82));
-    assert!(rt; PORT_1_OF_B.has_isdr() && !PORT_1_OF_A1.has_isdr());
     Ok(())
 }
 
