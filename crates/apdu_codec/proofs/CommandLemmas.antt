@@ -1,10 +1,10 @@
 use Rattle.std.proofs.Common.{◌≡◌, ℕ, ◌-◌, ◌<◌, ◌≤◌, List, ◌∷◌, take, drop, length, Option, Some, arith}
 use Rattle.std.proofs.Math.Seq.{take-length}
-use Rattle.apdu_codec.specs.Command.{IsCommand, Spells, SpellsTail, Spoken}
+use Rattle.apdu_codec.specs.Command.{IsCommand, Spells, SpellsTail, Apdu}
 use Rattle.apdu_codec.specs.declared.commands.Command.{Command}
 
 -- what follows the first four bytes of a command is its tail
-pub SpellsTail-of_spelled : (bytes : List ℕ) (c : Spoken) → Spells bytes c
+pub SpellsTail-of_spelled : (bytes : List ℕ) (c : Apdu) → Spells bytes c
     → SpellsTail (take (length bytes - 4) (drop 4 bytes)) c.body c.le
 SpellsTail-of_spelled bytes c spelled =
     let rest : length (spelled.0 ∷ c.ins ∷ c.p1 ∷ c.p2 ∷ spelled.1) - 4 ≡ length spelled.1 = omega arith in

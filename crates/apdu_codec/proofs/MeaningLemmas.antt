@@ -4,7 +4,7 @@ use Rattle.std.proofs.lemmas.Grind.{common_steps}
 use Rattle.std.proofs.lemmas.List.{get_or_push, length-take-le, take_more}
 use Rattle.std.proofs.Math.Seq.{take-length}
 use Rattle.apdu_codec.specs.Class.{HasClass}
-use Rattle.apdu_codec.specs.Command.{IsBody, Spells, SpellsTail, Spoken, expected}
+use Rattle.apdu_codec.specs.Command.{IsBody, Spells, SpellsTail, Apdu, expected}
 use Rattle.apdu_codec.specs.declared.commands.Class.{Class}
 use Rattle.apdu_codec.specs.declared.commands.Class.TheVariants.{Standard, Special}
 
@@ -58,7 +58,7 @@ SpellsTail-once tail one other m n (inr (inr (inr h))) (inr (inr (inr k))) =
     (parts.0, h.4 ∙ (ap (λ b. Some (expected b)) parts.1 ∙ sym k.4))
 
 -- bytes spell at most one command
-pub Spells-once : (bytes : List ℕ) (c d : Spoken) → Spells bytes c → Spells bytes d → c ≡ d
+pub Spells-once : (bytes : List ℕ) (c d : Apdu) → Spells bytes c → Spells bytes d → c ≡ d
 Spells-once bytes c d h k =
     let same : h.0 ∷ c.ins ∷ c.p1 ∷ c.p2 ∷ h.1 ≡ k.0 ∷ d.ins ∷ d.p1 ∷ d.p2 ∷ k.1 = sym h.2 ∙ k.2 in
     let class_byte : h.0 ≡ k.0 = cc in
@@ -191,7 +191,7 @@ SpellsTail-decided (byte ∷ []) =
 SpellsTail-decided (lc ∷ x ∷ rest) = longer lc x rest
 
 -- bytes spell a command, or none
-pub Spells-decided : (bytes : List ℕ) → ((c : Spoken) × Spells bytes c) ⊎ ((c : Spoken) → Spells bytes c → ⊥)
+pub Spells-decided : (bytes : List ℕ) → ((c : Apdu) × Spells bytes c) ⊎ ((c : Apdu) → Spells bytes c → ⊥)
 unfolding HasTail NoTail
 Spells-decided [] = inr (λ c h. absurd (omega (arith, ap length h.2)))
 Spells-decided (a ∷ []) = inr (λ c h. absurd (omega (arith, ap length h.2)))

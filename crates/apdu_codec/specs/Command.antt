@@ -6,7 +6,7 @@ use Rattle.apdu_codec.specs.declared.status.TheConstants.Sw.{WRONG_LENGTH}
 use Rattle.apdu_codec.specs.Class.{HasClass, class_refusal}
 
 -- a command, without where its body lies
-pub record Spoken : Type 0 where
+pub record Apdu : Type 0 where
   pub channel : ℕ
   pub class : Class
   pub ins : ℕ
@@ -16,8 +16,8 @@ pub record Spoken : Type 0 where
   pub le : Option ℕ
 
 -- what is said by a command that was read
-abbrev pub spoken : Command → Spoken
-spoken c = record { channel = c.channel; class = c.class; ins = c.ins; p1 = c.p1; p2 = c.p2; body = c.body.now; le = c.le }
+abbrev pub apdu_of : Command → Apdu
+apdu_of c = record { channel = c.channel; class = c.class; ins = c.ins; p1 = c.p1; p2 = c.p2; body = c.body.now; le = c.le }
 
 -- a body whose length one byte Lc can say; Lc isn't 00
 abbrev pub IsBody : List ℕ → Type 0
@@ -36,7 +36,7 @@ SpellsTail tail body le =
     ⊎ ((byte : ℕ) × (byte < 256) × IsBody body × (tail ≡ length body ∷ body ++ byte ∷ []) × (le ≡ Some (expected byte)))))
 
 -- these bytes spell this command: a header of four bytes, and one of the four cases
-abbrev pub Spells : List ℕ → Spoken → Type 0
+abbrev pub Spells : List ℕ → Apdu → Type 0
 Spells bytes c =
     (class_byte : ℕ) × (tail : List ℕ) × (bytes ≡ class_byte ∷ c.ins ∷ c.p1 ∷ c.p2 ∷ tail)
     × HasClass class_byte c.class c.channel × SpellsTail tail c.body c.le
@@ -48,4 +48,4 @@ refusal _ = WRONG_LENGTH
 
 -- some bytes spell this command
 abbrev pub IsCommand : Command → Type 0
-IsCommand c = (bytes : List ℕ) × Spells bytes (spoken c)
+IsCommand c = (bytes : List ℕ) × Spells bytes (apdu_of c)

@@ -2,7 +2,7 @@
 ghost use Rattle.std.specs.Prelude.{◌≡◌, ℕ, ◌+◌, ◌<◌, ◌≤◌, List, length, Option, IfOk, IfErr, OnOk, OnErr};
 ghost use Rattle.apdu_codec.specs.Class.{HasClass, class_refusal, is_special, is_standard};
 ghost use Rattle.apdu_codec.specs.declared.commands.Class.{Class};
-ghost use Rattle.apdu_codec.specs.Command.{IsCommand, Spells, SpellsTail, Spoken, expected, refusal, spoken};
+ghost use Rattle.apdu_codec.specs.Command.{IsCommand, Spells, SpellsTail, Apdu, expected, refusal, apdu_of};
 
 use crate::Sw;
 
@@ -61,10 +61,10 @@ struct Tail<'a> {
 /// those of the channels 4 to 19 with `6881` and all others with `6E00`, and then a wrong length of
 /// what follows the header with `6700`. Neither an Lc of 00 nor extended lengths are taken.
 pub fn read_command(bytes: &[u8]) -> Result<Command<'_>, Sw>
-    ensures spelled { IfOk result (λ c. Spells bytes.now (spoken c)) }
-    ensures only { IfOk result (λ c. (d : Spoken) → Spells bytes.now d → d ≡ spoken c) }
+    ensures spelled { IfOk result (λ c. Spells bytes.now (apdu_of c)) }
+    ensures only { IfOk result (λ c. (d : Apdu) → Spells bytes.now d → d ≡ apdu_of c) }
     ensures command { IfOk result (λ c. IsCommand c) }
-    ensures none { OnErr result ((d : Spoken) → ¬ Spells bytes.now d) }
+    ensures none { OnErr result ((d : Apdu) → ¬ Spells bytes.now d) }
     ensures refused { IfErr result (λ sw. sw ≡ refusal bytes.now) }
 {
     let [class_byte, ins, p1, p2, tail @ ..] = bytes else {

@@ -5,7 +5,7 @@ use Rattle.std.specs.Io.KnownBytes.{Appends}
 use Rattle.std.specs.Prelude.{slice_get}
 use Rattle.apdu_codec.specs.declared.answers.Answer.{Answer}
 use Rattle.profile_card.specs.Card.{Card}
-use Rattle.profile_card.specs.Held.{Held, card_of}
+use Rattle.profile_card.specs.CardState.{CardState, card_of}
 use Rattle.profile_card.specs.Sample.{sample_card}
 use Rattle.profile_card.specs.Step.{Gives, Runs, RunsTo}
 use Rattle.profile_card.proofs.RunLemmas.{RunsTo-front, RunsTo-more}
@@ -17,7 +17,7 @@ abbrev pub apdus : List ScriptStatement → List (List ℕ)
 apdus statements = map (λ statement. statement.apdu) statements
 
 -- the card has answered these statements, and the text of its answers is written but for what is gathered
-pub record RunSoFar (statements : List ScriptStatement) (card : Held) (before now : Option (List ℕ)) (gathered : List ℕ) : Type 0 where
+pub record RunSoFar (statements : List ScriptStatement) (card : CardState) (before now : Option (List ℕ)) (gathered : List ℕ) : Type 0 where
   pub answers : List Answer
   pub run : RunsTo sample_card (apdus statements) answers (card_of card)
   pub written : List ℕ
@@ -64,11 +64,11 @@ Appends-nothing : (known : Option (List ℕ)) → Appends known known []
 Appends-nothing None = tt
 Appends-nothing (Some xs) = sym (append-nil xs)
 
-pub start : (before : Option (List ℕ)) (card : Held) → card_of card ≡ sample_card → RunSoFar [] card before before []
+pub start : (before : Option (List ℕ)) (card : CardState) → card_of card ≡ sample_card → RunSoFar [] card before before []
 start before card e = record { answers = []; run = e; written = []; appended = Appends-nothing before; text = refl }
 
 -- one more statement is answered, and its line gathered
-pub answered : (script : List ScriptStatement) (index : ℕ) (statement : ScriptStatement) (card next : Held) (before now : Option (List ℕ)) (block longer : List ℕ) (answer : Answer)
+pub answered : (script : List ScriptStatement) (index : ℕ) (statement : ScriptStatement) (card next : CardState) (before now : Option (List ℕ)) (block longer : List ℕ) (answer : Answer)
     → RunSoFar (take index script) card before now block → slice_get script index ≡ Some statement → index < length script
     → Gives (card_of card) statement.apdu answer (card_of next) → longer ≡ block ++ answer_line (index + 1) answer
     → RunSoFar (take (index + 1) script) next before now longer
@@ -92,7 +92,7 @@ answered script index statement card next before now block longer answer so_far 
     }
 
 -- a front of what was gathered is written, and the rest stays gathered
-pub moved : (statements : List ScriptStatement) (card : Held) (before now new : Option (List ℕ)) (block piece rest : List ℕ) → RunSoFar statements card before now block → Appends now new piece → block ≡ piece ++ rest → RunSoFar statements card before new rest
+pub moved : (statements : List ScriptStatement) (card : CardState) (before now new : Option (List ℕ)) (block piece rest : List ℕ) → RunSoFar statements card before now block → Appends now new piece → block ≡ piece ++ rest → RunSoFar statements card before new rest
 moved statements card before now new block piece rest so_far more parts =
     record {
       answers = so_far.answers;
@@ -103,13 +103,13 @@ moved statements card before now new block piece rest so_far more parts =
     }
 
 -- all is answered and written
-pub finished : (script : List ScriptStatement) (card : Held) (before now new : Option (List ℕ)) (block : List ℕ) → RunSoFar script card before now block → Appends now new block
+pub finished : (script : List ScriptStatement) (card : CardState) (before now new : Option (List ℕ)) (block : List ℕ) → RunSoFar script card before now block → Appends now new block
     → (answers : List Answer) × IsRun script answers × Appends before new (demo_text answers)
 finished script card before now new block so_far more =
     (so_far.answers, (card_of card, so_far.run), subst (Appends before new) (sym so_far.text) (Appends-trans before now new so_far.written block so_far.appended more))
 
 -- a front of what was gathered is written, which is a front of the text
-pub stopped : (script : List ScriptStatement) (index : ℕ) (card : Held) (before now new : Option (List ℕ)) (block : List ℕ) (n : ℕ) (answers : List Answer)
+pub stopped : (script : List ScriptStatement) (index : ℕ) (card : CardState) (before now new : Option (List ℕ)) (block : List ℕ) (n : ℕ) (answers : List Answer)
     → RunSoFar (take index script) card before now block → Appends now new (take n block) → n ≤ length block → IsRun script answers → WritesFront before new (demo_text answers)
 stopped script index card before now new block n answers so_far more within run =
     let commands : apdus (take index script) ++ apdus (drop index script) ≡ apdus script = sym (map-append (λ (s : ScriptStatement). s.apdu) (take index script) (drop index script)) ∙ ap apdus (take-append-drop index script) in

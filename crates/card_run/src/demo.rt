@@ -3,7 +3,7 @@ ghost use Rattle.std.specs.Prelude.{◌≡◌, ℕ, ◌⊎◌, ◌↔◌, List, 
 ghost use Rattle.std.specs.Io.KnownBytes.{Appends, IsAtEnd};
 ghost use Rattle.apdu_codec.specs.declared.answers.Answer.{Answer};
 ghost use Rattle.port_io.specs.Faults.{NeverFalls, OnlyWhereRose, Rose};
-ghost use Rattle.profile_card.specs.Held.{card_of};
+ghost use Rattle.profile_card.specs.CardState.{card_of};
 ghost use Rattle.profile_card.specs.Step.{Gives};
 ghost use Rattle.card_run.specs.Demo.{IsDemo, IsRun, WritesFront, demo_text};
 ghost use Rattle.card_run.specs.Load.{HasLoadCause, HasWriteCause};

@@ -1,9 +1,9 @@
 use Rattle.std.proofs.Common.{◌≡◌, ℕ, Bool, true, false, ◌&&◌, ◌||◌, ◌⊎◌, inl, inr, refl, sym}
 use Rattle.std.specs.Prelude.{◌==◌, is_some}
 use Rattle.std.proofs.lemmas.Bool.{eqb-true, true≢false}
-use Rattle.apdu_codec.specs.Command.{Spoken}
+use Rattle.apdu_codec.specs.Command.{Apdu}
 use Rattle.apdu_codec.specs.declared.status.TheConstants.Sw.{WRONG_INSTRUCTION}
-use Rattle.uicc_channels.specs.Row.{refused}
+use Rattle.uicc_channels.specs.CommandRow.{refused}
 use Rattle.uicc_channels.specs.Session.{channel_at}
 use Rattle.uicc_select.specs.Status.{chan_of}
 use Rattle.profile_card.specs.Card.{Card}
@@ -19,11 +19,11 @@ either_met true other e = inl refl
 either_met false other e = inr e
 
 -- an instruction that the card doesn't know, on an open channel
-unknown_at : (card : Card) (c : Spoken) (ins : ℕ) → c.ins ≡ ins → (ins == 0xA4) ≡ false → (ins == 0xF2) ≡ false → (ins == 0xB0) ≡ false → is_some (channel_at card.session c.channel) ≡ true → decision card c ≡ refused card.session WRONG_INSTRUCTION
+unknown_at : (card : Card) (c : Apdu) (ins : ℕ) → c.ins ≡ ins → (ins == 0xA4) ≡ false → (ins == 0xF2) ≡ false → (ins == 0xB0) ≡ false → is_some (channel_at card.session c.channel) ≡ true → decision card c ≡ refused card.session WRONG_INSTRUCTION
 unknown_at card c ins e select status read is_open = rw (e, select, status, read, is_open) refl
 
 -- what the common part answers in the card's place is unknown to the card
-pub unknown_to_the_card : (card : Card) (c : Spoken) → is_common card.session c ≡ true → decision card c ≡ refused card.session WRONG_INSTRUCTION
+pub unknown_to_the_card : (card : Card) (c : Apdu) → is_common card.session c ≡ true → decision card c ≡ refused card.session WRONG_INSTRUCTION
 unknown_to_the_card card c common =
     let met = both_met (is_some (channel_at card.session c.channel)) ((c.ins == 0x7A) || (((c.ins == 0xE2) || (c.ins == 0xC0)) && (chan_of card.session c).isdr)) common in
     elim (either_met (c.ins == 0x7A) (((c.ins == 0xE2) || (c.ins == 0xC0)) && (chan_of card.session c).isdr) met.1) [

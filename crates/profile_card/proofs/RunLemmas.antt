@@ -1,8 +1,8 @@
 use Rattle.std.proofs.Common.{◌≡◌, ℕ, inl, inr, List, [], ◌∷◌, ◌++◌, refl, sym, ◌∙◌, ap, subst, Option, Some, None}
 use Rattle.apdu_codec.proofs.MeaningLemmas.{Spells-decided, Spells-once}
-use Rattle.apdu_codec.specs.Command.{Spoken, refusal}
+use Rattle.apdu_codec.specs.Command.{Apdu, refusal}
 use Rattle.apdu_codec.specs.declared.answers.Answer.{Answer}
-use Rattle.uicc_channels.specs.Row.{refused}
+use Rattle.uicc_channels.specs.CommandRow.{refused}
 use Rattle.uicc_channels.specs.declared.decided.Decided.{Decided}
 use Rattle.profile_card.specs.Card.{Card, settled}
 use Rattle.profile_card.specs.Commands.{decision}
@@ -11,7 +11,7 @@ use Rattle.profile_card.specs.Step.Event.{Command, Reset, Power, Bound, Unbound}
 
 -- a card has one answer to the same bytes
 pub Answers-once : (card : Card) (bytes : List ℕ) (o p : Outcome) → Answers card bytes o → Answers card bytes p → o ≡ p
-Answers-once card bytes o p (inl h) (inl k) = h.2 ∙ (ap (λ (c : Spoken). answering card (decision card c)) (Spells-once bytes h.0 k.0 h.1 k.1) ∙ sym k.2)
+Answers-once card bytes o p (inl h) (inl k) = h.2 ∙ (ap (λ (c : Apdu). answering card (decision card c)) (Spells-once bytes h.0 k.0 h.1 k.1) ∙ sym k.2)
 Answers-once card bytes o p (inl h) (inr k) = absurd (k.0 h.0 h.1)
 Answers-once card bytes o p (inr h) (inl k) = absurd (h.0 k.0 k.1)
 Answers-once card bytes o p (inr h) (inr k) = h.1 ∙ sym k.1

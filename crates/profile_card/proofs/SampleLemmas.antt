@@ -10,7 +10,7 @@ use Rattle.file_rows.specs.declared.head.Kind.TheVariants.{Master, Linear, Trans
 use Rattle.file_rows.specs.declared.pin.PinRow.{PinRow}
 use Rattle.uicc_channels.proofs.SessionLemmas.{Suits-fresh_session}
 use Rattle.uicc_channels.specs.Session.{fresh_session}
-use Rattle.profile_card.specs.Held.{MayFollow}
+use Rattle.profile_card.specs.CardState.{MayFollow}
 use Rattle.profile_card.specs.Sample.{file, pin, sample, sample_card}
 
 -- what the files take of the quota

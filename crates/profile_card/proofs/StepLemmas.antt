@@ -1,6 +1,6 @@
 use Rattle.std.proofs.Common.{◌≡◌, ℕ, Bool, true, false, cond, ◌&&◌, List, refl, sym, ◌∙◌, ap, subst, Option, Some, None, IfSome, inl, inr}
 use Rattle.std.specs.Prelude.{◌==◌}
-use Rattle.apdu_codec.specs.Command.{Spoken, refusal}
+use Rattle.apdu_codec.specs.Command.{Apdu, refusal}
 use Rattle.apdu_codec.specs.declared.status.Sw.{Sw}
 use Rattle.file_rows.specs.Change.{Fits}
 use Rattle.file_rows.specs.Content.{IsValid}
@@ -8,7 +8,7 @@ use Rattle.file_rows.specs.declared.change.Change.{Change}
 use Rattle.file_rows.specs.declared.pin.PinRow.{PinRow}
 use Rattle.file_rows.specs.declared.row.FileRow.{FileRow}
 use Rattle.uicc_channels.proofs.SessionLemmas.{Suits-fresh_session}
-use Rattle.uicc_channels.specs.Row.{Row, decided, refused, refusal_of, refused_or}
+use Rattle.uicc_channels.specs.CommandRow.{CommandRow, decided, refused, refusal_of, refused_or}
 use Rattle.uicc_channels.specs.Session.{Suits, fresh_session}
 use Rattle.uicc_channels.specs.declared.decided.Decided.{Decided}
 use Rattle.uicc_channels.specs.declared.session.Session.{Session}
@@ -21,16 +21,16 @@ use Rattle.uicc_select.specs.declared.naming.Target.{Target}
 use Rattle.uicc_tree.specs.Change.{HasRoom}
 use Rattle.profile_card.specs.Card.{Card, IsSound, content_after, isdr_here, settled}
 use Rattle.profile_card.specs.Commands.{decision, not_at_isdr, row_of, unknown_row}
-use Rattle.profile_card.specs.Held.{HasRoomFor, Held, MayFollow, card_of}
+use Rattle.profile_card.specs.CardState.{HasRoomFor, CardState, MayFollow, card_of}
 use Rattle.profile_card.specs.ReadBinary.{read_binary_row}
 use Rattle.profile_card.specs.Step.{Answers, Event, Outcome, Steps, StepsAt, restarted}
 use Rattle.profile_card.specs.Step.Event.{Command, Reset, Power, Bound, Unbound}
 
 -- what an instruction does leaves a session that suits the files
-abbrev Keeps : List FileRow → Row → Type 0
+abbrev Keeps : List FileRow → CommandRow → Type 0
 Keeps rows row = Suits row.done.session rows
 
-Keeps-cond : (rows : List FileRow) (b : Bool) (one other : Row) → Keeps rows one → Keeps rows other → Keeps rows (cond b one other)
+Keeps-cond : (rows : List FileRow) (b : Bool) (one other : CommandRow) → Keeps rows one → Keeps rows other → Keeps rows (cond b one other)
 Keeps-cond rows true one other first second = first
 Keeps-cond rows false one other first second = second
 
@@ -39,27 +39,27 @@ change-choice : (b : Bool) (one other : Choice) → one.done.change ≡ None →
 change-choice true one other first second = first
 change-choice false one other first second = second
 
-change-choice_of_file : (pins : List PinRow) (session : Session) (c : Spoken) (target : Target) (file : Option FileRow) → (choice_of_file pins session c (chan_of session c) target file).done.change ≡ None
+change-choice_of_file : (pins : List PinRow) (session : Session) (c : Apdu) (target : Target) (file : Option FileRow) → (choice_of_file pins session c (chan_of session c) target file).done.change ≡ None
 change-choice_of_file pins session c target None = refl
 change-choice_of_file pins session c target (Some row) = refl
 
-change-choice_of : (rows : List FileRow) (pins : List PinRow) (session : Session) (here : Bool) (c : Spoken) (target : Option Target) → (choice_of rows pins session here c target).done.change ≡ None
+change-choice_of : (rows : List FileRow) (pins : List PinRow) (session : Session) (here : Bool) (c : Apdu) (target : Option Target) → (choice_of rows pins session here c target).done.change ≡ None
 change-choice_of rows pins session here c None = refl
 change-choice_of rows pins session here c (Some target) =
     change-choice (here && names_isdr target) _ _ refl (change-choice_of_file pins session c target (found rows (chan_of session c) target))
 
 -- nor does STATUS
-change-told : (one other : Bool) (session : Session) (c : Spoken) (parameters name : Option (List ℕ)) (plain : Decided) → plain.change ≡ None
+change-told : (one other : Bool) (session : Session) (c : Apdu) (parameters name : Option (List ℕ)) (plain : Decided) → plain.change ≡ None
     → (cond one (delivered_of session c parameters) (cond other (delivered_of session c name) plain)).change ≡ None
 change-told true other session c parameters name plain e = refl
 change-told false true session c parameters name plain e = refl
 change-told false false session c parameters name plain e = e
 
-change-cond : (b : Bool) (one other : Row) → one.done.change ≡ None → other.done.change ≡ None → (cond b one other).done.change ≡ None
+change-cond : (b : Bool) (one other : CommandRow) → one.done.change ≡ None → other.done.change ≡ None → (cond b one other).done.change ≡ None
 change-cond true one other first second = first
 change-cond false one other first second = second
 
-change-row_of : (card : Card) (c : Spoken) → (row_of card c).done.change ≡ None
+change-row_of : (card : Card) (c : Apdu) → (row_of card c).done.change ≡ None
 change-row_of card c =
     let rows = card.content.rows in
     let pins = card.content.pins in
@@ -73,27 +73,27 @@ change-refused_or None session done none = none
 change-refused_or (Some sw) session done none = refl
 
 -- no command changes a content yet, so none needs memory
-pub HasRoomFor-decision : (held : Held) (c : Spoken) (result : Decided) → result ≡ decision (card_of held) c → HasRoomFor held result.change
-HasRoomFor-decision held c result e =
-    let card = card_of held in
+pub HasRoomFor-decision : (state : CardState) (c : Apdu) (result : Decided) → result ≡ decision (card_of state) c → HasRoomFor state result.change
+HasRoomFor-decision state c result e =
+    let card = card_of state in
     let none : result.change ≡ None = ap (λ (done : Decided). done.change) e ∙ change-refused_or (refusal_of (row_of card c)) card.session (row_of card c).done (change-row_of card c) in
-    subst (λ (o : Option Change). IfSome o (HasRoom held.tree)) (sym none) tt
+    subst (λ (o : Option Change). IfSome o (HasRoom state.tree)) (sym none) tt
 
 module _ (card : Card) (sound : IsSound card) where
-  Keeps-select : (c : Spoken) → Keeps card.content.rows (select_row card.content.rows card.content.pins card.session (isdr_here card) c)
+  Keeps-select : (c : Apdu) → Keeps card.content.rows (select_row card.content.rows card.content.pins card.session (isdr_here card) c)
   Keeps-select c =
       Suits-select_row card.content.rows (AreRows-valid card.content sound.content) card.session sound.session card.content.pins (isdr_here card) c
 
-  Keeps-status : (c : Spoken) → Keeps card.content.rows (not_at_isdr card.session c (status_row card.content.rows card.content.pins card.session c))
+  Keeps-status : (c : Apdu) → Keeps card.content.rows (not_at_isdr card.session c (status_row card.content.rows card.content.pins card.session c))
   Keeps-status c = Suits-status_row card.content.rows (AreRows-valid card.content sound.content) card.session sound.session card.content.pins c
 
-  Keeps-read : (c : Spoken) → Keeps card.content.rows (not_at_isdr card.session c (read_binary_row card.content.rows card.session c))
+  Keeps-read : (c : Apdu) → Keeps card.content.rows (not_at_isdr card.session c (read_binary_row card.content.rows card.session c))
   Keeps-read c = sound.session
 
-  Keeps-unknown : (c : Spoken) → Keeps card.content.rows (unknown_row card.session c)
+  Keeps-unknown : (c : Apdu) → Keeps card.content.rows (unknown_row card.session c)
   Keeps-unknown c = sound.session
 
-  Keeps-row_of : (c : Spoken) → Keeps card.content.rows (row_of card c)
+  Keeps-row_of : (c : Apdu) → Keeps card.content.rows (row_of card c)
   Keeps-row_of c =
       Keeps-cond card.content.rows (c.ins == 0xA4) _ _ (Keeps-select c)
       (Keeps-cond card.content.rows (c.ins == 0xF2) _ _ (Keeps-status c)
@@ -107,7 +107,7 @@ module _ (card : Card) (sound : IsSound card) where
   MayFollow-refused_or (Some sw) done none suits = record { change = tt; session = sound.session }
 
   -- a card may carry out what a command comes to
-  pub MayFollow-decision : (c : Spoken) → MayFollow card (decision card c)
+  pub MayFollow-decision : (c : Apdu) → MayFollow card (decision card c)
   MayFollow-decision c = MayFollow-refused_or (refusal_of (row_of card c)) (row_of card c).done (change-row_of card c) (Keeps-row_of c)
 
   IsValid-after : (change : Option Change) → IfSome change (Fits card.content) → IsValid (content_after card.content change)

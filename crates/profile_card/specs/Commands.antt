@@ -1,8 +1,8 @@
 use Rattle.std.specs.Prelude.{ℕ, ◌≡◌, ◌⊎◌, true, false, not, ◌==◌, if◌then◌else◌, None, is_some}
-use Rattle.apdu_codec.specs.Command.{Spoken}
+use Rattle.apdu_codec.specs.Command.{Apdu}
 use Rattle.apdu_codec.specs.declared.status.TheConstants.Sw.{OK}
 use Rattle.uicc_channels.specs.Answer.{status}
-use Rattle.uicc_channels.specs.Row.{Row, decided}
+use Rattle.uicc_channels.specs.CommandRow.{CommandRow, decided}
 use Rattle.uicc_channels.specs.Session.{channel_at}
 use Rattle.uicc_channels.specs.declared.chan.Chan.{Chan}
 use Rattle.uicc_channels.specs.declared.decided.Decided.{Decided}
@@ -13,7 +13,7 @@ use Rattle.profile_card.specs.Card.{Card, isdr_here}
 use Rattle.profile_card.specs.ReadBinary.{read_binary_row}
 
 -- an instruction that the card doesn't know
-abbrev pub unknown_row : Session → Spoken → Row
+abbrev pub unknown_row : Session → Apdu → CommandRow
 unknown_row session c =
     record {
       needs = record {
@@ -32,7 +32,7 @@ unknown_row session c =
     }
 
 -- an instruction that a channel knows unless the ISD-R is selected on it
-abbrev pub not_at_isdr : Session → Spoken → Row → Row
+abbrev pub not_at_isdr : Session → Apdu → CommandRow → CommandRow
 not_at_isdr session c row = record row { needs = record row.needs { instruction = not (chan_of session c).isdr } }
 
 -- where the ISD-R is selected, SELECT alone is known
@@ -40,7 +40,7 @@ abbrev pub IsKnownAt : Chan → ℕ → Type 0
 IsKnownAt chan ins = (chan.isdr ≡ false) ⊎ (ins ≡ 0xA4)
 
 -- the row of a command's instruction
-abbrev pub row_of : Card → Spoken → Row
+abbrev pub row_of : Card → Apdu → CommandRow
 row_of card c =
     let session = card.session in
     let rows = card.content.rows in
@@ -51,5 +51,5 @@ row_of card c =
     else unknown_row session c
 
 -- what a command comes to at a card
-abbrev pub decision : Card → Spoken → Decided
+abbrev pub decision : Card → Apdu → Decided
 decision card c = decided card.session (row_of card c)

@@ -1,6 +1,6 @@
 pub mod Card
 pub mod Commands
-pub mod Held
+pub mod CardState
 pub mod Own
 pub mod ReadBinary
 pub mod Sample

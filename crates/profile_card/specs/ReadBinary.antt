@@ -1,6 +1,6 @@
 use Rattle.std.specs.Prelude.{ℕ, ◌+◌, ◌-◌, ◌*◌, Bool, true, false, ◌==◌, ◌&&◌, ◌||◌, nat_lt, nat_le, if◌then◌else◌, List, [], length, take, drop, Option, Some, None, option_and_then, option_map, unwrap_or, is_some}
 use Rattle.apdu_codec.specs.Class.{is_standard}
-use Rattle.apdu_codec.specs.Command.{Spoken}
+use Rattle.apdu_codec.specs.Command.{Apdu}
 use Rattle.apdu_codec.specs.declared.status.Sw.{Sw}
 use Rattle.apdu_codec.specs.declared.status.TheConstants.Sw.{CONDITIONS_NOT_SATISFIED, DATA_BLOCKED, NO_CURRENT_EF, OK, WRONG_OFFSET}
 use Rattle.file_rows.specs.declared.head.Kind.{Kind}
@@ -11,7 +11,7 @@ use Rattle.file_rows.specs.declared.head.Rule.{Rule}
 use Rattle.file_rows.specs.declared.row.FileRow.{FileRow}
 use Rattle.uicc_channels.specs.Answer.{wrong_le}
 use Rattle.uicc_channels.specs.Chan.{current_file}
-use Rattle.uicc_channels.specs.Row.{Row}
+use Rattle.uicc_channels.specs.CommandRow.{CommandRow}
 use Rattle.uicc_channels.specs.Session.{channel_at}
 use Rattle.uicc_channels.specs.declared.session.Session.{Session}
 use Rattle.uicc_select.specs.Status.{chan_of}
@@ -45,7 +45,7 @@ read_refusal body offset le =
     else None
 
 -- ETSI TS 102 221, READ BINARY from an offset
-abbrev pub read_binary_row : List FileRow → Session → Spoken → Row
+abbrev pub read_binary_row : List FileRow → Session → Apdu → CommandRow
 read_binary_row rows session c =
     let file = current_file rows (chan_of session c) in
     let body = unwrap_or (option_map (λ row. row.body) file) [] in

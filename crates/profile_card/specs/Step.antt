@@ -1,8 +1,8 @@
 use Rattle.std.specs.Prelude.{ℕ, ◌≡◌, ◌⊎◌, Bool, false, List, [], ◌∷◌, Option, Some, None}
-use Rattle.apdu_codec.specs.Command.{Spells, Spoken, refusal}
+use Rattle.apdu_codec.specs.Command.{Spells, Apdu, refusal}
 use Rattle.apdu_codec.specs.declared.answers.Answer.{Answer}
 use Rattle.file_rows.specs.declared.change.Change.{Change}
-use Rattle.uicc_channels.specs.Row.{refused}
+use Rattle.uicc_channels.specs.CommandRow.{refused}
 use Rattle.uicc_channels.specs.Session.{fresh_session}
 use Rattle.uicc_channels.specs.declared.decided.Decided.{Decided}
 use Rattle.profile_card.specs.Card.{Card, settled}
@@ -34,8 +34,8 @@ answering card decided =
 -- what a card answers to these bytes: to a command by its instruction, and to anything else with its refusal
 abbrev pub Answers : Card → List ℕ → Outcome → Type 0
 Answers card bytes outcome =
-    ((c : Spoken) × Spells bytes c × (outcome ≡ answering card (decision card c)))
-    ⊎ (((c : Spoken) → ¬ Spells bytes c) × (outcome ≡ answering card (refused card.session (refusal bytes))))
+    ((c : Apdu) × Spells bytes c × (outcome ≡ answering card (decision card c)))
+    ⊎ (((c : Apdu) → ¬ Spells bytes c) × (outcome ≡ answering card (refused card.session (refusal bytes))))
 
 -- the card after a reset of its port
 abbrev pub restarted : Card → Card

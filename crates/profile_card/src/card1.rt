@@ -1,17 +1,17 @@
 ghost use Rattle.std.specs.Prelude.{◌≡◌, ◌<◌, ◌==◌, [], None, Some, IfOk, IfSome, OnOk, OnErr};
-ghost use Rattle.apdu_codec.specs.Command.{IsCommand, spoken};
+ghost use Rattle.apdu_codec.specs.Command.{IsCommand, apdu_of};
 ghost use Rattle.file_rows.specs.Change.{Fits};
 ghost use Rattle.file_rows.specs.Content.{IsValid};
 ghost use Rattle.uicc_channels.specs.Session.{IsOpen, Suits, fresh_session};
 ghost use Rattle.uicc_channels.specs.declared.session.TheConstants.{CHANNELS};
-ghost use Rattle.uicc_channels.specs.Row.{decided};
+ghost use Rattle.uicc_channels.specs.CommandRow.{decided};
 ghost use Rattle.uicc_select.specs.Select.{select_row};
 ghost use Rattle.uicc_select.specs.Status.{chan_of, status_row};
 ghost use Rattle.uicc_tree.specs.Change.{HasRoom};
 ghost use Rattle.uicc_tree.specs.Files.{rows_of};
 ghost use Rattle.profile_card.specs.Card.{isdr_here, settled};
 ghost use Rattle.profile_card.specs.Commands.{IsKnownAt, decision};
-ghost use Rattle.profile_card.specs.Held.{HasRoomFor, MayFollow, TakesRoom, card_of, content_of};
+ghost use Rattle.profile_card.specs.CardState.{HasRoomFor, MayFollow, TakesRoom, card_of, content_of};
 
 use crate::pins::change_pins;
 use crate::place::Place;
@@ -62,9 +62,9 @@ impl Model for Card1 {
     ghost use Rattle.file_rows.specs.Content.{IsValid};
     ghost use Rattle.uicc_channels.specs.Session.{Suits};
     ghost use Rattle.uicc_tree.specs.Files.{rows_of};
-    ghost use Rattle.profile_card.specs.Held.{Held};
+    ghost use Rattle.profile_card.specs.CardState.{CardState};
 
-    ghost Value = { Held };
+    ghost Value = { CardState };
 
     ghost view = { λ c. record { tree = c.tree; pins = c.pins.items; session = c.session; place = c.place } };
 
@@ -113,7 +113,7 @@ impl Card1 {
     /// so is each but SELECT where the ISD-R is selected on the channel. It takes no memory, and copies the session once.
     pub fn decide(&self, command: &Command) -> Decided
         requires { IsCommand command.now }
-        ensures decision { result ≡ decision (card_of self.now) (spoken command.now) }
+        ensures decision { result ≡ decision (card_of self.now) (apdu_of command.now) }
         ensures may_follow { MayFollow (card_of self.now) result }
     {
         let Some(chan) = self.session.channel_at(command.channel) else {
@@ -128,7 +128,7 @@ impl Card1 {
     fn select(&self, command: &Command) -> Decided
         requires { IsOpen self.now.session command.now.channel }
         ensures { result ≡ decided self.now.session
-            (select_row (rows_of self.now.tree) self.now.pins self.now.session (isdr_here (card_of self.now)) (spoken command.now)) }
+            (select_row (rows_of self.now.tree) self.now.pins self.now.session (isdr_here (card_of self.now)) (apdu_of command.now)) }
     {
         let isdr_here = self.place.mode.has_isdr(self.place.port);
         select(&self.tree, &self.pins, &self.session, isdr_here, command)
@@ -136,7 +136,7 @@ impl Card1 {
 
     fn tell(&self, command: &Command) -> Decided
         requires { IsOpen self.now.session command.now.channel }
-        ensures { result ≡ decided self.now.session (status_row (rows_of self.now.tree) self.now.pins self.now.session (spoken command.now)) }
+        ensures { result ≡ decided self.now.session (status_row (rows_of self.now.tree) self.now.pins self.now.session (apdu_of command.now)) }
     {
         status(&self.tree, &self.pins, &self.session, command)
     }
@@ -145,8 +145,8 @@ impl Card1 {
     fn answer(&self, command: &Command) -> Decided
         requires spelled { IsCommand command.now }
         requires open { IsOpen self.now.session command.now.channel }
-        requires known { IsKnownAt (chan_of self.now.session (spoken command.now)) command.now.ins }
-        ensures { result ≡ decision (card_of self.now) (spoken command.now) }
+        requires known { IsKnownAt (chan_of self.now.session (apdu_of command.now)) command.now.ins }
+        ensures { result ≡ decision (card_of self.now) (apdu_of command.now) }
     {
         ins_rows!(case_arms: command.ins, instruction(self, command), refuse(&self.session, Sw::WRONG_INSTRUCTION))
     }

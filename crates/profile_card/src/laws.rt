@@ -1,7 +1,7 @@
 ghost use Rattle.std.specs.Prelude.{◌≡◌, ℕ, true, List, Some};
-ghost use Rattle.apdu_codec.specs.Command.{Spoken};
+ghost use Rattle.apdu_codec.specs.Command.{Apdu};
 ghost use Rattle.apdu_codec.specs.declared.answers.Answer.{Answer};
-ghost use Rattle.uicc_channels.specs.Row.{refused};
+ghost use Rattle.uicc_channels.specs.CommandRow.{refused};
 ghost use Rattle.profile_card.specs.Card.{Card, IsSound};
 ghost use Rattle.profile_card.specs.Commands.{decision};
 ghost use Rattle.profile_card.specs.Own.{is_common};
@@ -32,6 +32,6 @@ pub fn cards_stay_sound()
 /// What the common part of an eUICC answers in a card's place is unknown to the card itself: it would answer `6D00`, and
 /// nothing would change.
 pub fn common_commands_are_unknown_to_the_card()
-    ensures { (card : Card) (c : Spoken) → is_common card.session c ≡ true
+    ensures { (card : Card) (c : Apdu) → is_common card.session c ≡ true
         → decision card c ≡ refused card.session Sw.WRONG_INSTRUCTION }
 {}

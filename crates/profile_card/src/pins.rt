@@ -2,7 +2,7 @@
 ghost use Rattle.std.specs.Prelude.{◌≡◌, ◌==◌, not, filter, if◌then◌else◌};
 ghost use Rattle.file_rows.specs.Change.{with_pin};
 ghost use Rattle.file_rows.specs.Path.{stands_below};
-ghost use Rattle.profile_card.specs.Held.{pins_after};
+ghost use Rattle.profile_card.specs.CardState.{pins_after};
 
 use file_rows::{Change, PinRow};
 

@@ -1,6 +1,6 @@
 ghost use Rattle.std.specs.Prelude.{◌≡◌, ◌+◌, ◌-◌, ◌<◌, ◌≤◌, ◌==◌, nat_le, nat_lt, length, take, drop, Some, None, MatchResult};
-ghost use Rattle.apdu_codec.specs.Command.{IsCommand, spoken};
-ghost use Rattle.uicc_channels.specs.Row.{Follows, decided};
+ghost use Rattle.apdu_codec.specs.Command.{IsCommand, apdu_of};
+ghost use Rattle.uicc_channels.specs.CommandRow.{Follows, decided};
 ghost use Rattle.uicc_channels.specs.Session.{IsOpen};
 ghost use Rattle.uicc_tree.specs.Files.{file_of, rows_of};
 ghost use Rattle.uicc_select.specs.Gives.{Gives};
@@ -62,7 +62,7 @@ fn read_from(body: &[u8], offset: usize, le: u16) -> Result<AnswerBody, Sw>
 pub(crate) fn read_binary(tree: &Tree, session: &Session, command: &Command) -> Decided
     requires open { IsOpen session.now command.now.channel }
     requires spelled { IsCommand command.now }
-    ensures { result ≡ decided session.now (read_binary_row (rows_of tree.now) session.now (spoken command.now)) }
+    ensures { result ≡ decided session.now (read_binary_row (rows_of tree.now) session.now (apdu_of command.now)) }
 {
     conclude(session, read(tree, session, command))
 }
@@ -70,7 +70,7 @@ pub(crate) fn read_binary(tree: &Tree, session: &Session, command: &Command) -> 
 fn read(tree: &Tree, session: &Session, command: &Command) -> Result<Decided, Sw>
     requires open { IsOpen session.now command.now.channel }
     requires spelled { IsCommand command.now }
-    ensures { Follows (read_binary_row (rows_of tree.now) session.now (spoken command.now)) result }
+    ensures { Follows (read_binary_row (rows_of tree.now) session.now (apdu_of command.now)) result }
 {
     require(command.class.is_standard(), Sw::WRONG_CLASS)?;
     require(command.p1 < 0x80, Sw::WRONG_P1_P2)?;

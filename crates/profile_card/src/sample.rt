@@ -1,7 +1,7 @@
 //! The content of the sample card.
 ghost use Rattle.std.specs.Prelude.{◌≡◌, ◌≤◌, length, IfOk};
 ghost use Rattle.file_rows.specs.Content.{use_of};
-ghost use Rattle.profile_card.specs.Held.{card_of};
+ghost use Rattle.profile_card.specs.CardState.{card_of};
 ghost use Rattle.profile_card.specs.Sample.{file, head, pin, sample, sample_card};
 
 use crate::{Card1, Place};

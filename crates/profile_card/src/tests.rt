@@ -2,7 +2,7 @@
 //! once.
 ghost use Rattle.std.specs.Prelude.{◌≡◌, ◌≤◌, [], ◌∷◌, length};
 ghost use Rattle.file_rows.specs.Content.{IsValid};
-ghost use Rattle.profile_card.specs.Held.{card_of};
+ghost use Rattle.profile_card.specs.CardState.{card_of};
 ghost use Rattle.profile_card.specs.Sample.{pin, sample_card};
 
 use super::*;
@@ -30,7 +30,7 @@ const SELECT_ISDR: &[u8] =
 const USIM_NAME: &[u8; 16] = b"\xA0\x00\x00\x00\x87\x10\x02\xFF\xFF\xFF\xFF\x89\x00\x00\x01\x00";
 
 // A command, and the answer to it: its body and its status word.
-type Row = (&'static [u8], &'static [u8], u16);
+type Case = (&'static [u8], &'static [u8], u16);
 
 // The answer to a command, which is carried out.
 fn ask(card: &mut Card1, bytes: &[u8]) -> Result<Answer, Fail> {
@@ -47,7 +47,7 @@ fn ask(card: &mut Card1, bytes: &[u8]) -> Result<Answer, Fail> {
 }
 
 // Whether the card gives these answers, one after another; if not, the number of the first that it doesn't give.
-fn first_other(card: &mut Card1, rows: &[Row]) -> Result<Option<usize>, Fail> {
+fn first_other(card: &mut Card1, rows: &[Case]) -> Result<Option<usize>, Fail> {
     for (index, (bytes, body, sw)) in rows.iter().enumerate() {
         let answer = ask(card, bytes)?;
         if answer.body.as_slice() != *body || answer.sw != Sw(*sw) {
@@ -78,7 +78,7 @@ fn the_sample_card_uses_781_bytes_of_its_quota(rt: HostRuntime) -> Result<(), Fa
 #[test]
 fn the_sample_card_answers(rt: HostRuntime) -> Result<(), Fail> {
     let mut card = sample_card(rt.alloc())?;
-    let rows: [Row; 11] = [
+    let rows: [Case; 11] = [
         (b"\x00\xB0\x00\x00\x05", b"", 0x6986),
         (b"\x00\xA4\x00\x0C\x02\x2F\x08", b"", 0x9000),
         (b"\x00\xB0\x00\x00\x05", b"", 0x6982),
@@ -191,7 +191,7 @@ fn a_modem_finds_the_application(rt: HostRuntime) -> Result<(), Fail> {
         return Err(Fail::from("the content is none of a card"));
     }
     let mut card = start(rt.alloc(), &content)?;
-    let rows: [Row; 9] = [
+    let rows: [Case; 9] = [
         (
             b"\x00\xA4\x00\x04\x02\x3F\x00\x00",
             MASTER_PARAMETERS,
@@ -229,7 +229,7 @@ fn a_modem_finds_the_application(rt: HostRuntime) -> Result<(), Fail> {
 #[test]
 fn a_blank_card_has_no_file(rt: HostRuntime) -> Result<(), Fail> {
     let mut card = blank(rt.alloc(), PORT_1_OF_B);
-    let rows: [Row; 9] = [
+    let rows: [Case; 9] = [
         (b"\x00\xA4\x00\x0C\x02\x3F\x00", b"", 0x6A82),
         (b"\x80\xF2\x00\x00\x00", b"", 0x6A82),
         (b"\x80\xF2\x00\x01\x00", b"", 0x6A88),

@@ -1,5 +1,5 @@
 use Rattle.std.specs.Prelude.{ℕ, ◌==◌, ◌||◌, List, length, Option, Some, None, if◌then◌else◌}
-use Rattle.apdu_codec.specs.Command.{Spoken}
+use Rattle.apdu_codec.specs.Command.{Apdu}
 use Rattle.apdu_codec.specs.declared.answers.Answer.{Answer}
 use Rattle.apdu_codec.specs.declared.status.TheConstants.Sw.{OK}
 use Rattle.uicc_channels.specs.Answer.{bytes_waiting, status, wrong_le}
@@ -19,6 +19,6 @@ waiting None session channel body = with_pending session channel body
 waiting (Some le) session channel body = session
 
 -- ETSI TS 102 221, GET RESPONSE: what comes of a command that has this answer body
-abbrev pub delivered : Session → Spoken → List ℕ → Decided
+abbrev pub delivered : Session → Apdu → List ℕ → Decided
 delivered session c body =
     record { answer = answered c.le body; session = waiting c.le session c.channel body; change = None }

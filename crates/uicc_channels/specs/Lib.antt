@@ -2,5 +2,5 @@ pub mod Answer
 pub mod Chan
 pub mod Delivery
 pub mod Needs
-pub mod Row
+pub mod CommandRow
 pub mod Session

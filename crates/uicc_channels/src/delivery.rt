@@ -1,5 +1,5 @@
 ghost use Rattle.std.specs.Prelude.{◌≡◌, ◌≤◌, length};
-ghost use Rattle.apdu_codec.specs.Command.{spoken};
+ghost use Rattle.apdu_codec.specs.Command.{apdu_of};
 ghost use Rattle.uicc_channels.specs.Delivery.{answered, delivered};
 ghost use Rattle.uicc_channels.specs.Session.{IsOpen};
 
@@ -34,7 +34,7 @@ pub fn deliver(session: &Session, command: &Command, body: &[u8]) -> Decided
     requires open { IsOpen session.now command.now.channel }
     requires some { 1 ≤ length body.now }
     requires most { length body.now ≤ 256 }
-    ensures { result ≡ delivered session.now (spoken command.now) body.now }
+    ensures { result ≡ delivered session.now (apdu_of command.now) body.now }
 {
     let after = match command.le {
         None => session.with_pending(command.channel, body),

@@ -1,5 +1,5 @@
 ghost use Rattle.std.specs.Prelude.{◌≡◌, ◌≢◌, ◌<◌, ℕ, Bool, List, Option, Some, None, IsSome};
-ghost use Rattle.apdu_codec.specs.Command.{Spoken};
+ghost use Rattle.apdu_codec.specs.Command.{Apdu};
 ghost use Rattle.file_rows.specs.Content.{IsValid};
 ghost use Rattle.file_rows.specs.declared.content.Content.{Content};
 ghost use Rattle.file_rows.specs.declared.row.FileRow.{FileRow};
@@ -24,18 +24,18 @@ pub fn fresh_sessions_have_their_channels()
 /// The delivery of an answer body changes no content, and of the session at most what waits on the command's channel:
 /// the body comes to wait there where there is no Le, and with an Le the session stays as it is.
 pub fn answers_stay_on_their_channel()
-    ensures waits { (session : Session) (c : Spoken) (body : List ℕ) (chan : Chan) → c.le ≡ None
+    ensures waits { (session : Session) (c : Apdu) (body : List ℕ) (chan : Chan) → c.le ≡ None
         → channel_at session c.channel ≡ Some chan
         → channel_at (delivered session c body).session c.channel ≡ Some (holding body chan) }
-    ensures given { (session : Session) (c : Spoken) (body : List ℕ) → IsSome c.le
+    ensures given { (session : Session) (c : Apdu) (body : List ℕ) → IsSome c.le
         → (delivered session c body).session ≡ session }
-    ensures others { (session : Session) (c : Spoken) (body : List ℕ) (number : ℕ) → number ≢ c.channel
+    ensures others { (session : Session) (c : Apdu) (body : List ℕ) (number : ℕ) → number ≢ c.channel
         → channel_at (delivered session c body).session number ≡ channel_at session number }
-    ensures verified { (session : Session) (c : Spoken) (body : List ℕ)
+    ensures verified { (session : Session) (c : Apdu) (body : List ℕ)
         → (delivered session c body).session.verified ≡ session.verified }
-    ensures refresh { (session : Session) (c : Spoken) (body : List ℕ)
+    ensures refresh { (session : Session) (c : Apdu) (body : List ℕ)
         → (delivered session c body).session.refresh ≡ session.refresh }
-    ensures content { (session : Session) (c : Spoken) (body : List ℕ) → (delivered session c body).change ≡ None }
+    ensures content { (session : Session) (c : Apdu) (body : List ℕ) → (delivered session c body).change ≡ None }
 {}
 
 /// A fresh session suits every valid content. A session that suits a card's files goes on to suit them after a
@@ -43,7 +43,7 @@ pub fn answers_stay_on_their_channel()
 pub fn sessions_suit_their_cards()
     ensures fresh { (content : Content) (refresh : Bool) (kept : Option ℕ) → IsValid content
         → Suits (fresh_session refresh kept) content.rows }
-    ensures delivered { (session : Session) (rows : List FileRow) (c : Spoken) (body : List ℕ) → Suits session rows
+    ensures delivered { (session : Session) (rows : List FileRow) (c : Apdu) (body : List ℕ) → Suits session rows
         → Suits (delivered session c body).session rows }
     ensures opened { (session : Session) (rows : List FileRow) (number : ℕ) (chan : Chan) → Suits session rows
         → StandsAmong rows chan → Suits (with_channel session number (Some chan)) rows }

@@ -1,5 +1,5 @@
 ghost use Rattle.std.specs.Prelude.{◌≡◌, false, IsTrue, MatchResult};
-ghost use Rattle.uicc_channels.specs.Row.{concluded, refused};
+ghost use Rattle.uicc_channels.specs.CommandRow.{concluded, refused};
 
 use crate::{Decided, Session};
 use apdu_codec::{Answer, Sw};

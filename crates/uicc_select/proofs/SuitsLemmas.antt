@@ -1,7 +1,7 @@
 use Rattle.std.proofs.Common.{◌≡◌, ℕ, Bool, true, false, cond, ◌&&◌, List, [], refl, sym, ◌∙◌, ap, subst, inl, inr, ⊎_elim, Option, Some, None, IfSome, IsSomeAnd, IsTrue}
 use Rattle.std.specs.Prelude.{◌==◌}
 use Rattle.std.specs.Option.{unwrap_or}
-use Rattle.apdu_codec.specs.Command.{Spoken}
+use Rattle.apdu_codec.specs.Command.{Apdu}
 use Rattle.apdu_codec.specs.declared.status.Sw.{Sw}
 use Rattle.apdu_codec.specs.declared.status.TheConstants.Sw.{OK}
 use Rattle.file_rows.specs.Content.{AreFiles, IsValid, file_at}
@@ -15,7 +15,7 @@ use Rattle.file_rows.specs.declared.row.FileRow.{FileRow}
 use Rattle.uicc_channels.proofs.SessionLemmas.{Suits-waiting, Suits-with_channel, master_is_there}
 use Rattle.uicc_channels.specs.Chan.{IsDirectoryIn, StandsAmong, at_isdr, at_master}
 use Rattle.uicc_channels.specs.Answer.{status}
-use Rattle.uicc_channels.specs.Row.{Row, decided, refusal_of, refused_or}
+use Rattle.uicc_channels.specs.CommandRow.{CommandRow, decided, refusal_of, refused_or}
 use Rattle.uicc_channels.specs.Session.{Suits, channel_at, with_channel}
 use Rattle.uicc_channels.specs.declared.chan.Chan.{Chan}
 use Rattle.uicc_channels.specs.declared.decided.Decided.{Decided}
@@ -118,14 +118,14 @@ module _ (rows : List FileRow) (either : AreRows rows) (session : Session) (suit
   open_or_root (Some chan) stands = stands
 
   -- the channel of a command stands among the files, and a closed one as at the MF
-  chan_stands : (c : Spoken) → StandsAmong rows (chan_of session c)
+  chan_stands : (c : Apdu) → StandsAmong rows (chan_of session c)
   chan_stands c = open_or_root (channel_at session c.channel) (suits.each c.channel)
 
   -- a channel goes where it stands among the files
   Suits-moved : (number : ℕ) (chan : Chan) → StandsAmong rows chan → Suits (with_channel session number (Some chan)) rows
   Suits-moved number chan stands = Suits-with_channel session rows number (Some chan) suits stands (λ e. refl)
 
-  Suits-choice_of_file : (pins : List PinRow) (c : Spoken) (target : Target) (file : Option FileRow) → found rows (chan_of session c) target ≡ file → Suits (choice_of_file pins session c (chan_of session c) target file).done.session rows
+  Suits-choice_of_file : (pins : List PinRow) (c : Apdu) (target : Target) (file : Option FileRow) → found rows (chan_of session c) target ≡ file → Suits (choice_of_file pins session c (chan_of session c) target file).done.session rows
   Suits-choice_of_file pins c target None e = suits
   Suits-choice_of_file pins c target (Some row) e =
       Suits-moved c.channel _ (StandsAmong-standing_at rows either (chan_of session c) (chan_stands c) row target _ e)
@@ -134,7 +134,7 @@ module _ (rows : List FileRow) (either : AreRows rows) (session : Session) (suit
   Suits-cond true one other first second = first
   Suits-cond false one other first second = second
 
-  Suits-choice_of : (pins : List PinRow) (isdr_here : Bool) (c : Spoken) (target : Option Target) → Suits (choice_of rows pins session isdr_here c target).done.session rows
+  Suits-choice_of : (pins : List PinRow) (isdr_here : Bool) (c : Apdu) (target : Option Target) → Suits (choice_of rows pins session isdr_here c target).done.session rows
   Suits-choice_of pins isdr_here c None = suits
   Suits-choice_of pins isdr_here c (Some target) =
       Suits-cond (isdr_here && names_isdr target) _ _
@@ -146,25 +146,25 @@ module _ (rows : List FileRow) (either : AreRows rows) (session : Session) (suit
   refused_or_done None done stands = stands
   refused_or_done (Some sw) done stands = suits
 
-  Suits-decided : (row : Row) → Suits row.done.session rows → Suits (decided session row).session rows
+  Suits-decided : (row : CommandRow) → Suits row.done.session rows → Suits (decided session row).session rows
   Suits-decided row done = refused_or_done (refusal_of row) row.done done
 
-  pub Suits-select_row : (pins : List PinRow) (isdr_here : Bool) (c : Spoken) → Suits (select_row rows pins session isdr_here c).done.session rows
+  pub Suits-select_row : (pins : List PinRow) (isdr_here : Bool) (c : Apdu) → Suits (select_row rows pins session isdr_here c).done.session rows
   Suits-select_row pins isdr_here c = Suits-choice_of pins isdr_here c (target_of c.p1 c.body)
 
   -- a session goes on to suit a card's files after SELECT
-  pub Suits-select : (pins : List PinRow) (isdr_here : Bool) (c : Spoken) → Suits (decided session (select_row rows pins session isdr_here c)).session rows
+  pub Suits-select : (pins : List PinRow) (isdr_here : Bool) (c : Apdu) → Suits (decided session (select_row rows pins session isdr_here c)).session rows
   Suits-select pins isdr_here c = Suits-decided (select_row rows pins session isdr_here c) (Suits-select_row pins isdr_here c)
 
-  Suits-told : (one other : Bool) (c : Spoken) (parameters name : Option (List ℕ)) → Suits (cond one (delivered_of session c parameters) (cond other (delivered_of session c name) (record { answer = status OK; session = session; change = None }))).session rows
+  Suits-told : (one other : Bool) (c : Apdu) (parameters name : Option (List ℕ)) → Suits (cond one (delivered_of session c parameters) (cond other (delivered_of session c name) (record { answer = status OK; session = session; change = None }))).session rows
   Suits-told true other c parameters name = Suits-waiting c.le session rows c.channel (unwrap_or parameters []) suits
   Suits-told false true c parameters name = Suits-waiting c.le session rows c.channel (unwrap_or name []) suits
   Suits-told false false c parameters name = suits
 
-  pub Suits-status_row : (pins : List PinRow) (c : Spoken) → Suits (status_row rows pins session c).done.session rows
+  pub Suits-status_row : (pins : List PinRow) (c : Apdu) → Suits (status_row rows pins session c).done.session rows
   Suits-status_row pins c =
       Suits-told (c.p2 == 0) (c.p2 == 1) c (parameters_of_directory rows pins (chan_of session c)) (name_of_application rows (chan_of session c))
 
   -- and after STATUS
-  pub Suits-status : (pins : List PinRow) (c : Spoken) → Suits (decided session (status_row rows pins session c)).session rows
+  pub Suits-status : (pins : List PinRow) (c : Apdu) → Suits (decided session (status_row rows pins session c)).session rows
   Suits-status pins c = Suits-decided (status_row rows pins session c) (Suits-status_row pins c)

@@ -1,6 +1,6 @@
 use Rattle.std.specs.Prelude.{ℕ, Bool, true, false, ◌==◌, ◌&&◌, ◌||◌, if◌then◌else◌, List, [], length, Option, Some, None, option_and_then, option_map, unwrap_or, is_some}
 use Rattle.apdu_codec.specs.Class.{is_standard}
-use Rattle.apdu_codec.specs.Command.{Spoken}
+use Rattle.apdu_codec.specs.Command.{Apdu}
 use Rattle.apdu_codec.specs.declared.answers.Answer.{Answer}
 use Rattle.apdu_codec.specs.declared.status.Sw.{Sw}
 use Rattle.apdu_codec.specs.declared.status.TheConstants.Sw.{FILE_NOT_FOUND, OK, SELECTED_DEACTIVATED, SELECTED_TERMINATED}
@@ -15,7 +15,7 @@ use Rattle.file_rows.specs.declared.row.FileRow.{FileRow}
 use Rattle.uicc_channels.specs.Answer.{status, wrong_le}
 use Rattle.uicc_channels.specs.Chan.{at_isdr}
 use Rattle.uicc_channels.specs.Delivery.{answered}
-use Rattle.uicc_channels.specs.Row.{Row}
+use Rattle.uicc_channels.specs.CommandRow.{CommandRow}
 use Rattle.uicc_channels.specs.Session.{channel_at, with_channel}
 use Rattle.uicc_channels.specs.declared.chan.Chan.{Chan}
 use Rattle.uicc_channels.specs.declared.decided.Decided.{Decided}
@@ -77,7 +77,7 @@ abbrev pub in_place_of_ok : Sw → Answer → Answer
 in_place_of_ok sw answer = record { body = answer.body; sw = if answer.sw.0 == OK.0 then sw else answer.sw }
 
 -- a file is selected: with its control parameters or with no answer body
-abbrev pub selecting : Session → Spoken → Chan → Target → Option (List ℕ) → FileHead → Decided
+abbrev pub selecting : Session → Apdu → Chan → Target → Option (List ℕ) → FileHead → Decided
 selecting session c chan target parameters head =
     let pending = left_waiting c.le (unwrap_or parameters []) in
     record {
@@ -87,7 +87,7 @@ selecting session c chan target parameters head =
     }
 
 -- the ISD-R is selected
-abbrev pub selecting_isdr : Session → Spoken → Decided
+abbrev pub selecting_isdr : Session → Apdu → Decided
 selecting_isdr session c =
     record { answer = status OK; session = with_channel session c.channel (Some at_isdr); change = None }
 
@@ -110,7 +110,7 @@ pub record Choice : Type 0 where
   pub own : Option Sw
   pub done : Decided
 
-abbrev pub choice_of_file : List PinRow → Session → Spoken → Chan → Target → Option FileRow → Choice
+abbrev pub choice_of_file : List PinRow → Session → Apdu → Chan → Target → Option FileRow → Choice
 choice_of_file pins session c chan target None =
     record { is_there = false; own = None; done = record { answer = status OK; session = session; change = None } }
 choice_of_file pins session c chan target (Some row) =
@@ -121,7 +121,7 @@ choice_of_file pins session c chan target (Some row) =
       done = selecting session c chan target parameters row.head;
     }
 
-abbrev pub choice_of : List FileRow → List PinRow → Session → Bool → Spoken → Option Target → Choice
+abbrev pub choice_of : List FileRow → List PinRow → Session → Bool → Apdu → Option Target → Choice
 choice_of rows pins session isdr_here c None =
     record { is_there = false; own = None; done = record { answer = status OK; session = session; change = None } }
 choice_of rows pins session isdr_here c (Some target) =
@@ -130,7 +130,7 @@ choice_of rows pins session isdr_here c (Some target) =
     else choice_of_file pins session c (chan_of session c) target (found rows (chan_of session c) target)
 
 -- ETSI TS 102 221, SELECT
-abbrev pub select_row : List FileRow → List PinRow → Session → Bool → Spoken → Row
+abbrev pub select_row : List FileRow → List PinRow → Session → Bool → Apdu → CommandRow
 select_row rows pins session isdr_here c =
     let target = target_of c.p1 c.body in
     let choice = choice_of rows pins session isdr_here c target in

@@ -1,6 +1,6 @@
 use Rattle.std.specs.Prelude.{ℕ, ◌==◌, ◌&&◌, ◌||◌, if◌then◌else◌, Bool, true, false, List, [], ◌∷◌, length, Option, Some, None, option_map, unwrap_or, is_some}
 use Rattle.apdu_codec.specs.Class.{is_special}
-use Rattle.apdu_codec.specs.Command.{Spoken}
+use Rattle.apdu_codec.specs.Command.{Apdu}
 use Rattle.apdu_codec.specs.declared.status.Sw.{Sw}
 use Rattle.apdu_codec.specs.declared.status.TheConstants.Sw.{DATA_NOT_FOUND, FILE_NOT_FOUND, OK}
 use Rattle.fcp_codec.specs.Writing.{written}
@@ -10,7 +10,7 @@ use Rattle.file_rows.specs.declared.row.FileRow.{FileRow}
 use Rattle.uicc_channels.specs.Answer.{status}
 use Rattle.uicc_channels.specs.Chan.{at_master}
 use Rattle.uicc_channels.specs.Delivery.{delivered}
-use Rattle.uicc_channels.specs.Row.{Row}
+use Rattle.uicc_channels.specs.CommandRow.{CommandRow}
 use Rattle.uicc_channels.specs.Session.{channel_at}
 use Rattle.uicc_channels.specs.declared.chan.Chan.{Chan}
 use Rattle.uicc_channels.specs.declared.decided.Decided.{Decided}
@@ -18,7 +18,7 @@ use Rattle.uicc_channels.specs.declared.session.Session.{Session}
 use Rattle.uicc_select.specs.Find.{file_of_path}
 
 -- the channel of a command
-abbrev pub chan_of : Session → Spoken → Chan
+abbrev pub chan_of : Session → Apdu → Chan
 chan_of session c = unwrap_or (channel_at session c.channel) at_master
 
 -- P1 00, 01 and 02, of which none changes the answer; P2 00, 01 and 0C: the control parameters of the current
@@ -40,14 +40,14 @@ abbrev pub name_of_application : List FileRow → Chan → Option (List ℕ)
 name_of_application rows chan = option_map (λ row. name_object row.head.name) (file_of_path rows chan.app)
 
 -- what is delivered, where there is something
-abbrev pub delivered_of : Session → Spoken → Option (List ℕ) → Decided
+abbrev pub delivered_of : Session → Apdu → Option (List ℕ) → Decided
 delivered_of session c body = delivered session c (unwrap_or body [])
 
 abbrev pub refused_unless_there : {X : Type 0} → Option X → Sw → Option Sw
 refused_unless_there found sw = if is_some found then None else Some sw
 
 -- ETSI TS 102 221, STATUS
-abbrev pub status_row : List FileRow → List PinRow → Session → Spoken → Row
+abbrev pub status_row : List FileRow → List PinRow → Session → Apdu → CommandRow
 status_row rows pins session c =
     let chan = chan_of session c in
     let parameters = parameters_of_directory rows pins chan in

@@ -1,8 +1,8 @@
 ghost use Rattle.std.specs.Prelude.{Bool, List};
-ghost use Rattle.apdu_codec.specs.Command.{Spoken};
+ghost use Rattle.apdu_codec.specs.Command.{Apdu};
 ghost use Rattle.file_rows.specs.Content.{IsValid};
 ghost use Rattle.file_rows.specs.declared.content.Content.{Content};
-ghost use Rattle.uicc_channels.specs.Row.{decided};
+ghost use Rattle.uicc_channels.specs.CommandRow.{decided};
 ghost use Rattle.uicc_channels.specs.Session.{Suits};
 ghost use Rattle.uicc_channels.specs.declared.session.Session.{Session};
 ghost use Rattle.uicc_select.specs.Select.{select_row};
@@ -11,9 +11,9 @@ ghost use Rattle.uicc_select.specs.Status.{status_row};
 /// A session that suits a valid content goes on to suit it after every SELECT and STATUS, accepted or refused: the
 /// current directory, the current EF and the application of each channel are files of the card.
 pub fn sessions_suit_after_selection()
-    ensures selected { (content : Content) (session : Session) (isdr_here : Bool) (c : Spoken) → IsValid content
+    ensures selected { (content : Content) (session : Session) (isdr_here : Bool) (c : Apdu) → IsValid content
         → Suits session content.rows
         → Suits (decided session (select_row content.rows content.pins session isdr_here c)).session content.rows }
-    ensures told { (content : Content) (session : Session) (c : Spoken) → IsValid content → Suits session content.rows
+    ensures told { (content : Content) (session : Session) (c : Apdu) → IsValid content → Suits session content.rows
         → Suits (decided session (status_row content.rows content.pins session c)).session content.rows }
 {}

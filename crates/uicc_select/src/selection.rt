@@ -1,8 +1,8 @@
 ghost use Rattle.std.specs.Prelude.{◌≡◌, ◌≤◌, [], length, Some, None, MatchResult, IfSome, option_and_then, option_map, unwrap_or};
-ghost use Rattle.apdu_codec.specs.Command.{spoken};
+ghost use Rattle.apdu_codec.specs.Command.{apdu_of};
 ghost use Rattle.uicc_channels.specs.Answer.{status as status_alone};
 ghost use Rattle.uicc_channels.specs.Delivery.{answered};
-ghost use Rattle.uicc_channels.specs.Row.{Follows, decided};
+ghost use Rattle.uicc_channels.specs.CommandRow.{Follows, decided};
 ghost use Rattle.uicc_channels.specs.Session.{IsOpen, Suits};
 ghost use Rattle.uicc_tree.specs.Change.{AreRows};
 ghost use Rattle.uicc_tree.specs.Files.{IsLive, file_of, rows_of};
@@ -158,7 +158,7 @@ fn parameters_for(tree: &Tree, pins: &[PinRow], node: u32, p2: u8) -> Option<Par
 // Selects the ISD-R.
 fn select_isdr(session: &Session, command: &Command) -> Decided
     requires { IsOpen session.now command.now.channel }
-    ensures { result ≡ selecting_isdr session.now (spoken command.now) }
+    ensures { result ≡ selecting_isdr session.now (apdu_of command.now) }
 {
     Decided {
         answer: Answer::status(Sw::OK),
@@ -179,7 +179,7 @@ fn select_file(
     requires some { IfSome parameters.now (λ bytes. 1 ≤ length bytes) }
     ensures { MatchResult result
         (λ done. (option_and_then (le_refusal command.now.le) parameters.now ≡ None)
-        × (done ≡ selecting session.now (spoken command.now) (chan_of session.now (spoken command.now)) target.now parameters.now head.now))
+        × (done ≡ selecting session.now (apdu_of command.now) (chan_of session.now (apdu_of command.now)) target.now parameters.now head.now))
         (λ sw. option_and_then (le_refusal command.now.le) parameters.now ≡ Some sw) }
 {
     let Some(chan) = session.channel_at(command.channel) else {
@@ -213,7 +213,7 @@ pub fn select(
 ) -> Decided
     requires files { AreRows (rows_of tree.now) }
     requires open { IsOpen session.now command.now.channel }
-    ensures value { result ≡ decided session.now (select_row (rows_of tree.now) pins.now session.now isdr_here (spoken command.now)) }
+    ensures value { result ≡ decided session.now (select_row (rows_of tree.now) pins.now session.now isdr_here (apdu_of command.now)) }
     ensures suits { Suits session.now (rows_of tree.now) → Suits result.session (rows_of tree.now) }
 {
     conclude(session, choose(tree, pins, session, isdr_here, command))
@@ -228,7 +228,7 @@ fn choose(
 ) -> Result<Decided, Sw>
     requires files { AreRows (rows_of tree.now) }
     requires open { IsOpen session.now command.now.channel }
-    ensures { Follows (select_row (rows_of tree.now) pins.now session.now isdr_here (spoken command.now)) result }
+    ensures { Follows (select_row (rows_of tree.now) pins.now session.now isdr_here (apdu_of command.now)) result }
 {
     require(command.class.is_standard(), Sw::WRONG_CLASS)?;
     require(are_of_select(command.p1, command.p2), Sw::WRONG_P1_P2)?;

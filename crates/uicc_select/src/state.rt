@@ -1,6 +1,6 @@
 ghost use Rattle.std.specs.Prelude.{◌≡◌, ◌≤◌, ◌==◌, length, Some, None, MatchOption, IfSome};
-ghost use Rattle.apdu_codec.specs.Command.{spoken};
-ghost use Rattle.uicc_channels.specs.Row.{Follows, decided};
+ghost use Rattle.apdu_codec.specs.Command.{apdu_of};
+ghost use Rattle.uicc_channels.specs.CommandRow.{Follows, decided};
 ghost use Rattle.uicc_channels.specs.Session.{IsOpen, Suits};
 ghost use Rattle.uicc_tree.specs.Change.{AreRows};
 ghost use Rattle.uicc_tree.specs.Files.{rows_of};
@@ -60,7 +60,7 @@ fn name_of_application(tree: &Tree, chan: &Chan) -> Option<AnswerBody>
 pub fn status(tree: &Tree, pins: &[PinRow], session: &Session, command: &Command) -> Decided
     requires files { AreRows (rows_of tree.now) }
     requires open { IsOpen session.now command.now.channel }
-    ensures value { result ≡ decided session.now (status_row (rows_of tree.now) pins.now session.now (spoken command.now)) }
+    ensures value { result ≡ decided session.now (status_row (rows_of tree.now) pins.now session.now (apdu_of command.now)) }
     ensures suits { Suits session.now (rows_of tree.now) → Suits result.session (rows_of tree.now) }
 {
     conclude(session, tell(tree, pins, session, command))
@@ -69,7 +69,7 @@ pub fn status(tree: &Tree, pins: &[PinRow], session: &Session, command: &Command
 fn tell(tree: &Tree, pins: &[PinRow], session: &Session, command: &Command) -> Result<Decided, Sw>
     requires files { AreRows (rows_of tree.now) }
     requires open { IsOpen session.now command.now.channel }
-    ensures { Follows (status_row (rows_of tree.now) pins.now session.now (spoken command.now)) result }
+    ensures { Follows (status_row (rows_of tree.now) pins.now session.now (apdu_of command.now)) result }
 {
     require(command.class.is_special(), Sw::WRONG_CLASS)?;
     require(are_of_status(command.p1, command.p2), Sw::WRONG_P1_P2)?;

@@ -4,7 +4,7 @@ use Rattle.file_rows.specs.declared.change.Change.TheVariants.{PinSet}
 use Rattle.file_rows.specs.declared.content.Content.{Content}
 use Rattle.profile_card.proofs.SampleLemmas.{Fits-second_pin, MayFollow-second_pin, second_pin}
 use Rattle.profile_card.specs.Card.{Card}
-use Rattle.profile_card.specs.Held.{MayFollow}
+use Rattle.profile_card.specs.CardState.{MayFollow}
 use Rattle.profile_card.proofs.tests.set_again.Goals as goal
 
 pub reserve-requires : goal.reserve-requires

@@ -1,6 +1,6 @@
 use Rattle.std.proofs.Common.{◌∙◌, sym, refl}
-use Rattle.apdu_codec.specs.Command.{spoken}
-use Rattle.uicc_channels.specs.Row.{Row}
+use Rattle.apdu_codec.specs.Command.{apdu_of}
+use Rattle.uicc_channels.specs.CommandRow.{CommandRow}
 use Rattle.uicc_tree.specs.Files.{rows_of}
 use Rattle.uicc_select.specs.Status.{status_row}
 use Rattle.uicc_select.proofs.NeedsLemmas.{class_refused, parameters_refused, lengths_refused}
@@ -9,14 +9,14 @@ use Rattle.uicc_select.proofs.state.tell.Goals as goal
 
 pub returns-in_err-require : goal.returns-in_err-require
 returns-in_err-require c =
-    let row : Row = status_row (rows_of c.args.tree.now) c.args.pins.now c.args.session.now (spoken c.args.command.now) in
+    let row : CommandRow = status_row (rows_of c.args.tree.now) c.args.pins.now c.args.session.now (apdu_of c.args.command.now) in
     let e = c.in_err-require.ensures in
     Follows-refused row _ _ _ c.from_residual.ensures.1 e.1
     (class_refused row.needs (record { channel = c.requires.open; instruction = refl }) (sym c.is_special.ensures ∙ e.0))
 
 pub returns-in_err-require-2 : goal.returns-in_err-require-2
 returns-in_err-require-2 c =
-    let row : Row = status_row (rows_of c.args.tree.now) c.args.pins.now c.args.session.now (spoken c.args.command.now) in
+    let row : CommandRow = status_row (rows_of c.args.tree.now) c.args.pins.now c.args.session.now (apdu_of c.args.command.now) in
     let e = c.in_err-require-2.ensures in
     Follows-refused row _ _ _ c.from_residual-in_err-require-2.ensures.1 e.1
     (parameters_refused row.needs (record { channel = c.requires.open; instruction = refl })
@@ -25,7 +25,7 @@ returns-in_err-require-2 c =
 
 pub returns-in_err-require-3 : goal.returns-in_err-require-3
 returns-in_err-require-3 c =
-    let row : Row = status_row (rows_of c.args.tree.now) c.args.pins.now c.args.session.now (spoken c.args.command.now) in
+    let row : CommandRow = status_row (rows_of c.args.tree.now) c.args.pins.now c.args.session.now (apdu_of c.args.command.now) in
     let e = c.in_err-require-3.ensures in
     Follows-refused row _ _ _ c.from_residual-in_err-require-3.ensures.1 e.1
     (lengths_refused row.needs (record { channel = c.requires.open; instruction = refl })

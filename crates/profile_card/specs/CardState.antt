@@ -14,19 +14,19 @@ use Rattle.profile_card.specs.declared.place.Place.{Place}
 
 -- what contracts see of a card at a port: its files, with the memory that is reserved among them, its PINs, its session
 -- and its place
-pub record Held : Type 0 where
+pub record CardState : Type 0 where
   pub tree : Files
   pub pins : List PinRow
   pub session : Session
   pub place : Place
 
-abbrev pub content_of : Held → Content
-content_of held = record { rows = rows_of held.tree; pins = held.pins }
+abbrev pub content_of : CardState → Content
+content_of state = record { rows = rows_of state.tree; pins = state.pins }
 
 -- the card that it is
-abbrev pub card_of : Held → Card
-card_of held =
-    record { content = content_of held; session = held.session; mode = held.place.mode; port = Some held.place.port }
+abbrev pub card_of : CardState → Card
+card_of state =
+    record { content = content_of state; session = state.session; mode = state.place.mode; port = Some state.place.port }
 
 -- a card may carry out what a command comes to: the change fits it, and the session suits what it then holds
 pub record MayFollow (card : Card) (decided : Decided) : Type 0 where
@@ -34,8 +34,8 @@ pub record MayFollow (card : Card) (decided : Decided) : Type 0 where
   pub session : Suits decided.session (content_after card.content decided.change).rows
 
 -- the memory that a change needs is reserved
-abbrev pub HasRoomFor : Held → Option Change → Type 0
-HasRoomFor held change = IfSome change (HasRoom held.tree)
+abbrev pub HasRoomFor : CardState → Option Change → Type 0
+HasRoomFor state change = IfSome change (HasRoom state.tree)
 
 -- the changes for which memory may be wanting: a new file, and a file's size
 abbrev pub TakesRoom : Change → Type 0

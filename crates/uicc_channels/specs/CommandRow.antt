@@ -7,12 +7,12 @@ use Rattle.uicc_channels.specs.declared.decided.Decided.{Decided}
 use Rattle.uicc_channels.specs.declared.session.Session.{Session}
 
 -- one instruction at a card: what it needs, and what it comes to where nothing refuses it
-pub record Row : Type 0 where
+pub record CommandRow : Type 0 where
   pub needs : Needs
   pub done : Decided
 
 -- the first status word of the order with which a card refuses, where there is one
-abbrev pub refusal_of : Row → Option Sw
+abbrev pub refusal_of : CommandRow → Option Sw
 refusal_of row = first_of (refusals row.needs)
 
 -- a refused command changes nothing
@@ -24,11 +24,11 @@ refused_or None session done = done
 refused_or (Some sw) session done = refused session sw
 
 -- what an instruction comes to, refused or done
-abbrev pub decided : Session → Row → Decided
+abbrev pub decided : Session → CommandRow → Decided
 decided session row = refused_or (refusal_of row) session row.done
 
 -- what came of an instruction is what its row says
-abbrev pub Follows : Row → Result Decided Sw → Type 0
+abbrev pub Follows : CommandRow → Result Decided Sw → Type 0
 Follows row (Ok done) = (refusal_of row ≡ None) × (done ≡ row.done)
 Follows row (Err sw) = refusal_of row ≡ Some sw
 
