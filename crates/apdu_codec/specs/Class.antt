@@ -1,4 +1,4 @@
-use Rattle.std.specs.Prelude.{◌≡◌, ℕ, ◌+◌, ◌<◌, Bool, true, false, ◌||◌, ◌&&◌, nat_le, Option, Some, None, if◌then◌else◌}
+use Rattle.std.specs.Prelude.{◌≡◌, ℕ, ◌+◌, ◌<◌, Bool, ◌||◌, ◌&&◌, nat_le, Option, Some, None, if◌then◌else◌}
 use Rattle.apdu_codec.specs.declared.commands.Class.{Class}
 use Rattle.apdu_codec.specs.declared.commands.Class.TheVariants.{Standard, Special}
 use Rattle.apdu_codec.specs.declared.status.Sw.{Sw}
@@ -8,16 +8,6 @@ use Rattle.apdu_codec.specs.declared.status.TheConstants.Sw.{CHANNEL_NOT_SUPPORT
 abbrev pub HasClass : ℕ → Class → ℕ → Type 0
 HasClass byte Standard channel = (byte ≡ channel) × (channel < 4)
 HasClass byte Special channel = (byte ≡ 0x80 + channel) × (channel < 4)
-
--- the class of ISO/IEC 7816-4
-abbrev pub is_standard : Class → Bool
-is_standard Standard = true
-is_standard Special = false
-
--- the class of the UICC's own instructions
-abbrev pub is_special : Class → Bool
-is_special Standard = false
-is_special Special = true
 
 -- the byte is one of those from first to last
 abbrev pub is_within : ℕ → ℕ → ℕ → Bool

@@ -5,7 +5,7 @@ use Rattle.apdu_codec.specs.declared.status.Sw.{Sw}
 use Rattle.apdu_codec.specs.declared.status.TheConstants.Sw.{WRONG_LENGTH}
 use Rattle.apdu_codec.specs.Class.{HasClass, class_refusal}
 
--- a command, without where its body lies
+-- the fields of a command APDU, without where its body lies
 pub record Apdu : Type 0 where
   pub channel : ℕ
   pub class : Class
@@ -15,7 +15,7 @@ pub record Apdu : Type 0 where
   pub body : List ℕ
   pub le : Option ℕ
 
--- what is said by a command that was read
+-- the fields of a command that was read
 abbrev pub apdu_of : Command → Apdu
 apdu_of c = record { channel = c.channel; class = c.class; ins = c.ins; p1 = c.p1; p2 = c.p2; body = c.body.now; le = c.le }
 

@@ -1,2 +1,5 @@
+pub mod Answer
 pub mod Class
 pub mod Command
+pub mod Ins
+pub mod Sw

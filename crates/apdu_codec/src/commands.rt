@@ -1,6 +1,6 @@
 //! Command APDUs.
 ghost use Rattle.std.specs.Prelude.{◌≡◌, ℕ, ◌+◌, ◌<◌, ◌≤◌, List, length, Option, IfOk, IfErr, OnOk, OnErr};
-ghost use Rattle.apdu_codec.specs.Class.{HasClass, class_refusal, is_special, is_standard};
+ghost use Rattle.apdu_codec.specs.Class.{HasClass, class_refusal};
 ghost use Rattle.apdu_codec.specs.declared.commands.Class.{Class};
 ghost use Rattle.apdu_codec.specs.Command.{IsCommand, Spells, SpellsTail, Apdu, expected, refusal, apdu_of};
 
@@ -13,22 +13,6 @@ pub enum Class {
     Standard,
     /// A class byte of the UICC's own instructions.
     Special,
-}
-
-impl Class {
-    /// Whether it is the class of ISO/IEC 7816-4.
-    pub fn is_standard(self) -> bool
-        ensures { result ≡ is_standard self }
-    {
-        matches!(self, Class::Standard)
-    }
-
-    /// Whether it is the class of the UICC's own instructions.
-    pub fn is_special(self) -> bool
-        ensures { result ≡ is_special self }
-    {
-        matches!(self, Class::Special)
-    }
 }
 
 /// A command APDU, taken apart.

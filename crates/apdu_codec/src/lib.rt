@@ -6,12 +6,16 @@
 
 mod answers;
 mod commands;
+pub mod ins;
 mod laws;
 mod status;
 
 pub use answers::{Answer, AnswerBody};
 pub use commands::{Class, Command, read_command};
-pub use laws::bytes_have_one_meaning;
+pub use ins::class_fits;
+pub use laws::{
+    bytes_have_one_meaning, instructions_have_their_codes, status_words_have_their_numbers,
+};
 pub use status::Sw;
 
 #[cfg(test)]

@@ -1,5 +1,6 @@
 //! Status words.
-ghost use Rattle.std.specs.Prelude.{◌≡◌, ◌+◌, ◌/◌, ◌%◌, ◌<◌, ◌≤◌, [], ◌∷◌};
+ghost use Rattle.std.specs.Prelude.{◌≡◌, ◌/◌, ◌%◌, ◌<◌, ◌≤◌, [], ◌∷◌};
+ghost use Rattle.apdu_codec.specs.Sw.{bytes_waiting, tries_left, wrong_le};
 
 /// A status word, SW1 and SW2, with SW1 in the high byte (ETSI TS 102 221, "Status conditions returned by the UICC").
 #[derive(Clone, Copy, Debug, PartialEq, Eq)]
@@ -67,8 +68,9 @@ impl Sw {
 
     /// `61XX`: this many bytes wait for GET RESPONSE, 1 to 256, of which 256 is written as 00.
     pub const fn bytes_waiting(count: u16) -> Sw
-        requires { count ≤ 256 }
-        ensures { result.0 ≡ 0x6100 + count % 256 }
+        requires some { 1 ≤ count }
+        requires most { count ≤ 256 }
+        ensures { result ≡ bytes_waiting count }
     {
         Sw(0x6100 + count % 256)
     }
@@ -76,8 +78,9 @@ impl Sw {
     /// `6CXX`: the expected length Le was wrong, and this many bytes, 1 to 256, can be had; 256 is
     /// written as 00.
     pub const fn wrong_le(count: u16) -> Sw
-        requires { count ≤ 256 }
-        ensures { result.0 ≡ 0x6C00 + count % 256 }
+        requires some { 1 ≤ count }
+        requires most { count ≤ 256 }
+        ensures { result ≡ wrong_le count }
     {
         Sw(0x6C00 + count % 256)
     }
@@ -85,7 +88,7 @@ impl Sw {
     /// `63CX`: the verification failed, and this many tries are left, at most 15.
     pub const fn tries_left(tries: u8) -> Sw
         requires { tries < 16 }
-        ensures { result.0 ≡ 0x63C0 + tries }
+        ensures { result ≡ tries_left tries }
     {
         Sw(0x63C0 + tries as u16)
     }

@@ -1,6 +1,5 @@
 //! What no clause says: commands and status words as bytes, and each call once.
 use super::*;
-use arrayvec::ArrayVec;
 use std::test::Fail;
 
 #[derive(Drop)]
@@ -144,8 +143,6 @@ fn every_class_byte_is_read_by_the_list(rt: HostRuntime) {
         next = u16::from(row.last) + 1;
     }
     assert_eq!(rt; next, 0x100);
-    assert!(rt; Class::Standard.is_standard() && !Class::Standard.is_special());
-    assert!(rt; Class::Special.is_special() && !Class::Special.is_standard());
 }
 
 #[test]
@@ -158,30 +155,29 @@ fn status_words_have_their_bytes(rt: HostRuntime) {
 }
 
 #[test]
-fn an_answer_holds_its_bytes(rt: HostRuntime) -> Result<(), Fail> {
-    let mut body = AnswerBody::from_slice(&[0x98, 0x94]);
-    body.extend_from_slice(&[0xF1]);
-    assert_eq!(rt; body.as_slice(), [0x98, 0x94, 0xF1].as_slice());
-    assert_eq!(rt; body.len(), 3);
-    assert!(rt; !body.is_empty());
-    let bytes: ArrayVec<u8, 256> = body.into_array_vec();
-    let answer = Answer {
-        body: AnswerBody::from(bytes),
-        sw: Sw::OK,
-    };
-    assert_eq!(rt; answer.body.len(), 3);
+fn an_answer_may_be_a_status_word_alone(rt: HostRuntime) {
     let refused = Answer::status(Sw::WRONG_OFFSET);
     assert!(rt; refused.body.is_empty());
     assert_eq!(rt; refused.sw, Sw(0x6B00));
-    Ok(())
+    let body = AnswerBody::from_slice(&[0x98, 0x94]);
+    let given = Answer { body, sw: Sw::OK };
+    assert_eq!(rt; given.body.as_slice(), [0x98, 0x94].as_slice());
 }
 
 #[test]
-fn an_answer_begins_without_bytes(rt: HostRuntime) {
-    assert!(rt; AnswerBody::new().is_empty());
+fn get_response_may_have_either_class(rt: HostRuntime) {
+    assert!(rt;
+        class_fits(ins::SELECT, Class::Standard) && !class_fits(ins::SELECT, Class::Special)
+    );
+    assert!(rt; class_fits(ins::FETCH, Class::Special) && !class_fits(ins::FETCH, Class::Standard));
+    assert!(rt; class_fits(ins::GET_RESPONSE, Class::Standard));
+    assert!(rt; class_fits(ins::GET_RESPONSE, Class::Special));
+    assert!(rt; !class_fits(0x84, Class::Standard) && !class_fits(0x84, Class::Special));
 }
 
 #[test]
-fn the_law_of_the_one_meaning_is_callable() {
+fn the_laws_are_callable() {
     bytes_have_one_meaning();
+    status_words_have_their_numbers();
+    instructions_have_their_codes();
 }

@@ -1,7 +1,8 @@
-ghost use Rattle.std.specs.Prelude.{◌≡◌, ◌<◌, ◌≤◌, ◌↔◌, ◌==◌, [], ◌∷◌, ◌++◌, length, IsOk, OnOk, OnErr, IsTrue};
+ghost use Rattle.std.specs.Prelude.{◌≡◌, ◌+◌, ◌<◌, ◌≤◌, ◌↔◌, ◌==◌, [], ◌∷◌, ◌++◌, length, slice_get, slice_set, Some, IsOk, OnOk, OnErr, IsTrue};
 
 use arrayvec::{ArrayVec, CapacityError};
 use std::marker::Model;
+use std::mem;
 
 /// At most `CAP` elements. Contracts see the list of them.
 #[derive(Debug, PartialEq, Eq, Drop)]
@@ -44,11 +45,19 @@ impl<T: Default + Copy, const CAP: usize> ShortList<T, CAP> {
         ShortList { elements: list }
     }
 
-    /// The same elements once more. It takes no memory.
+    /// A copy. It takes no memory.
     pub fn copy(&self) -> Self
         ensures { result ≡ self.now }
     {
         ShortList::from_slice(self.elements.as_slice())
+    }
+
+    /// Appends these elements.
+    pub fn extend_from_slice(&mut self, elements: &[T])
+        requires { length self.old + length elements.now ≤ CAP }
+        ensures { self.new ≡ self.old ++ elements.now }
+    {
+        let _fits = self.elements.try_extend_from_slice(elements);
     }
 }
 
@@ -85,6 +94,15 @@ impl<T: Drop, const CAP: usize> ShortList<T, CAP> {
         ensures { self.new ≡ self.old ++ element ∷ [] }
     {
         self.elements.push(element);
+    }
+
+    /// Puts an element in the place of the one at `index`, counted from 0, and returns that one. It moves no other.
+    pub fn replace(&mut self, index: usize, element: T) -> T
+        requires { index < length self.old }
+        ensures value { slice_get self.old index ≡ Some result }
+        ensures after { self.new ≡ slice_set self.old index element }
+    {
+        mem::replace(&mut self.elements.as_mut_slice()[index], element)
     }
 }
 
