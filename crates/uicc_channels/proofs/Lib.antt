@@ -1,1 +1,4 @@
+pub mod NeedsLemmas
+pub mod RowLemmas
 pub mod SessionLemmas
+pub mod VerifiedLemmas

@@ -1,6 +1,9 @@
-pub mod Answer
 pub mod Chan
-pub mod Delivery
-pub mod Needs
+pub mod CommandOutcome
 pub mod CommandRow
+pub mod Delivery
+pub mod Life
+pub mod Needs
 pub mod Session
+pub mod SessionChange
+pub mod Verified

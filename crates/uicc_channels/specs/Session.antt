@@ -1,4 +1,4 @@
-use Rattle.std.specs.Prelude.{ℕ, ◌-◌, ◌≡◌, Bool, List, ◌∷◌, length, replicate, slice_index_or, slice_set, Option, Some, None, IfSome, IsSome, option_map, if◌then◌else◌}
+use Rattle.std.specs.Prelude.{ℕ, ◌-◌, ◌≡◌, Bool, List, ◌∷◌, length, replicate, slice_index_or, slice_set, Option, Some, None, IfSome, IsSome, option_map, unwrap_or, if◌then◌else◌}
 use Rattle.file_rows.specs.declared.row.FileRow.{FileRow}
 use Rattle.uicc_channels.specs.Chan.{StandsAmong, at_isdr, at_master, holding}
 use Rattle.uicc_channels.specs.declared.chan.Chan.{Chan}
@@ -9,6 +9,10 @@ use Rattle.uicc_channels.specs.declared.session.TheConstants.{CHANNELS}
 -- the channel of that number, where it is open
 abbrev pub channel_at : Session → ℕ → Option Chan
 channel_at session number = slice_index_or session.channels number None
+
+-- the channel of that number, which is open
+abbrev pub open_channel : Session → ℕ → Chan
+open_channel session number = unwrap_or (channel_at session number) at_master
 
 abbrev pub IsOpen : Session → ℕ → Type 0
 IsOpen session number = IsSome (channel_at session number)

@@ -23,7 +23,7 @@ pub struct Chan {
     pub pending: Pending,
 }
 
-// The same path once more, where there is one.
+// A copy of a path, where there is one.
 fn copy_path(path: &Option<Path>) -> Option<Path>
     ensures { result ≡ path.now }
 {
@@ -58,14 +58,14 @@ impl Chan {
         }
     }
 
-    /// The same channel once more. It takes no memory.
+    /// A copy. It takes no memory.
     pub fn copy(&self) -> Self
         ensures { result ≡ self.now }
     {
         self.with_pending(self.pending.as_slice())
     }
 
-    /// The same channel once more, with these bytes waiting in place of what waited. It takes no memory.
+    /// A copy with these bytes waiting in place of what waited. It takes no memory.
     pub fn with_pending(&self, bytes: &[u8]) -> Self
         requires { length bytes.now ≤ 256 }
         ensures { result ≡ holding bytes.now self.now }

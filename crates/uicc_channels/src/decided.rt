@@ -1,11 +1,11 @@
-use crate::Session;
+use crate::SessionChange;
 use apdu_codec::Answer;
 use file_rows::Change;
 
-/// What a command comes to: its answer, the session after it, and what it changes in the content.
+/// What a card decides on a command: its answer, what it does to the session, and what it changes in the content.
 #[derive(Debug, Drop)]
 pub struct Decided {
     pub answer: Answer,
-    pub session: Session,
+    pub session: SessionChange,
     pub change: Option<Change>,
 }

@@ -1,4 +1,4 @@
-ghost use Rattle.std.specs.Prelude.{◌≡◌, ◌≢◌, ◌<◌, ℕ, Bool, List, Option, Some, None, IsSome};
+ghost use Rattle.std.specs.Prelude.{◌≡◌, ◌≢◌, ◌<◌, ◌≤◌, ◌^◌, ℕ, Bool, List, Option, Some, None, IsSome};
 ghost use Rattle.apdu_codec.specs.Command.{Apdu};
 ghost use Rattle.file_rows.specs.Content.{IsValid};
 ghost use Rattle.file_rows.specs.declared.content.Content.{Content};
@@ -6,6 +6,7 @@ ghost use Rattle.file_rows.specs.declared.row.FileRow.{FileRow};
 ghost use Rattle.uicc_channels.specs.Chan.{StandsAmong, at_isdr, at_master, holding};
 ghost use Rattle.uicc_channels.specs.Delivery.{delivered};
 ghost use Rattle.uicc_channels.specs.Session.{Suits, channel_at, fresh_session, with_channel};
+ghost use Rattle.uicc_channels.specs.Verified.{is_verified, with_pin};
 ghost use Rattle.uicc_channels.specs.declared.chan.Chan.{Chan};
 ghost use Rattle.uicc_channels.specs.declared.session.Session.{Session};
 ghost use Rattle.uicc_channels.specs.declared.session.TheConstants.{CHANNELS};
@@ -49,4 +50,13 @@ pub fn sessions_suit_their_cards()
         → StandsAmong rows chan → Suits (with_channel session number (Some chan)) rows }
     ensures closed { (session : Session) (rows : List FileRow) (number : ℕ) → Suits session rows
         → number ≢ 0 → Suits (with_channel session number None) rows }
+{}
+
+/// A PIN that comes to be verified, or no longer is, is so afterwards, and every other PIN is as it was.
+pub fn verified_pins_stand_apart()
+    ensures same { (verified number : ℕ) (now : Bool) → verified < 2 ^ 32 → 1 ≤ number → number ≤ 32
+        → is_verified (with_pin verified number now) number ≡ now }
+    ensures others { (verified number other : ℕ) (now : Bool) → verified < 2 ^ 32 → 1 ≤ number → number ≤ 32
+        → 1 ≤ other → other ≤ 32 → other ≢ number
+        → is_verified (with_pin verified number now) other ≡ is_verified verified other }
 {}

@@ -1,5 +1,6 @@
 ghost use Rattle.std.specs.Prelude.{◌≡◌, ◌+◌, ◌<◌, ◌≤◌, ◌++◌, length, IfSome, option_copied};
-ghost use Rattle.uicc_channels.specs.Session.{IsOpen, channel_at, fresh_session, reset_session, with_channel, with_pending};
+ghost use Rattle.uicc_channels.specs.Session.{IsOpen, channel_at, fresh_session, open_channel, reset_session};
+ghost use Rattle.uicc_channels.specs.Verified.{is_verified, with_pin};
 
 use crate::Chan;
 use plain_lists::ShortList;
@@ -30,8 +31,8 @@ pub struct Session {
     pub refresh: Refresh,
 }
 
-// The same place of a channel once more.
-fn copy_place(place: &Option<Chan>) -> Option<Chan>
+// A copy of the place of a channel.
+pub(crate) fn copy_place(place: &Option<Chan>) -> Option<Chan>
     ensures { result ≡ place.now }
 {
     match place {
@@ -51,24 +52,17 @@ fn push_copies(channels: &mut Channels, places: &[Option<Chan>])
 }
 
 impl Session {
-    // The same session over other channels.
-    fn with_channels(&self, channels: Channels) -> Self
-        ensures { result ≡ record self.now { channels = channels } }
-    {
-        Session {
-            channels,
-            verified: self.verified,
-            refresh: self.refresh,
-        }
-    }
-
-    /// The same session once more. It takes no memory.
+    /// A copy. It takes no memory.
     pub fn copy(&self) -> Self
         ensures { result ≡ self.now }
     {
         let mut channels = Channels::new();
         push_copies(&mut channels, self.channels.as_slice());
-        self.with_channels(channels)
+        Session {
+            channels,
+            verified: self.verified,
+            refresh: self.refresh,
+        }
     }
 
     /// The channel of that number, where it is open.
@@ -78,30 +72,38 @@ impl Session {
         self.channels.as_slice().get(usize::from(number))?.as_ref()
     }
 
-    /// The same session once more, with this in the place of that channel: an open channel, or none to close it.
-    /// It takes no memory.
-    pub fn with_channel(&self, number: u8, channel: Option<Chan>) -> Self
-        requires { number < length self.now.channels }
-        ensures { result ≡ with_channel self.now number channel }
+    /// The channel of that number, which is open.
+    pub fn open_channel(&self, number: u8) -> &Chan
+        requires { IsOpen self.now number }
+        ensures { result.now ≡ open_channel self.now number }
     {
-        let number = usize::from(number);
-        let places = self.channels.as_slice();
-        let mut channels = Channels::new();
-        push_copies(&mut channels, &places[..number]);
-        channels.push(channel);
-        push_copies(&mut channels, &places[number + 1..]);
-        self.with_channels(channels)
+        let Some(chan) = self.channel_at(number) else {
+            unreachable!()
+        };
+        chan
     }
 
-    /// The same session once more, with these bytes waiting on an open channel in place of what waited there.
-    /// It takes no memory.
-    pub fn with_pending(&self, number: u8, bytes: &[u8]) -> Self
-        requires open { IsOpen self.now number }
-        requires fits { length bytes.now ≤ 256 }
-        ensures { result ≡ with_pending self.now number bytes.now }
+    /// Whether the PIN with this number, from 1 to 32, is verified.
+    pub fn is_verified(&self, pin: u8) -> bool
+        requires first { 1 ≤ pin }
+        requires last { pin ≤ 32 }
+        ensures { result ≡ is_verified self.now.verified pin }
     {
-        let waiting = self.channel_at(number).map(|chan| chan.with_pending(bytes));
-        self.with_channel(number, waiting)
+        self.verified >> (pin - 1) & 1 == 1
+    }
+
+    /// The verified PINs, with the one of this number, from 1 to 32, verified or not.
+    pub fn verified_with(&self, pin: u8, verified: bool) -> u32
+        requires first { 1 ≤ pin }
+        requires last { pin ≤ 32 }
+        ensures { result ≡ with_pin self.now.verified pin verified }
+    {
+        let bit = 1 << (pin - 1);
+        if verified {
+            self.verified | bit
+        } else {
+            self.verified & !bit
+        }
     }
 }
 
@@ -136,6 +138,12 @@ pub fn fresh(refresh: bool, kept: Option<u8>) -> Session
     let session = reset_session(refresh);
     match kept {
         None => session,
-        Some(number) => session.with_channel(number, Some(Chan::at_isdr())),
+        Some(number) => {
+            let mut session = session;
+            let _before = session
+                .channels
+                .replace(usize::from(number), Some(Chan::at_isdr()));
+            session
+        }
     }
 }

@@ -2,7 +2,8 @@
 ghost use Rattle.std.specs.Prelude.{◌≡◌};
 
 use super::*;
-use apdu_codec::{Class, Command, Sw};
+use apdu_codec::{Answer, Class, Command, Sw, ins};
+use file_rows::{Life, Path};
 
 // An answer body of so many bytes, the Le of its command, the status word, and how many of its bytes are given.
 #[derive(Drop)]
@@ -43,7 +44,7 @@ fn an_answer_is_delivered_by_its_le(rt: HostRuntime) {
     let bytes = [0x62; 256];
     for row in &delivery_rows() {
         assert!(rt; 1 <= row.count && row.count <= 256 && row.given <= 256);
-        let answer = delivery_answer(row.le, &bytes[..row.count]);
+        let answer = delivery_answer(Sw::OK, row.le, &bytes[..row.count]);
         assert_eq!(rt;
             answer.sw,
             Sw(row.sw),
@@ -53,6 +54,22 @@ fn an_answer_is_delivered_by_its_le(rt: HostRuntime) {
         );
         assert_eq!(rt; answer.body.as_slice(), &bytes[..row.given]);
     }
+}
+
+#[test]
+fn a_warning_takes_the_place_of_9000_alone(rt: HostRuntime) {
+    let rows = [
+        (None, 0x6102),
+        (Some(256), 0x6283),
+        (Some(2), 0x6283),
+        (Some(1), 0x6C02),
+    ];
+    for (le, sw) in &rows {
+        let answer = delivery_answer(Sw::SELECTED_DEACTIVATED, *le, &[0x62, 0x00]);
+        assert_eq!(rt; answer.sw, Sw(*sw));
+    }
+    assert!(rt; require_le(Some(2), &[0x62, 0x00]).is_ok() && require_le(None, &[0x62]).is_ok());
+    assert!(rt; require_le(Some(3), &[0x62, 0x00]) == Err(Sw(0x6C02)));
 }
 
 // Whether the channel is open and these bytes wait there.
@@ -69,7 +86,7 @@ fn status_command(le: Option<u16>) -> Command<'static>
     Command {
         channel: 0,
         class: Class::Special,
-        ins: 0xF2,
+        ins: ins::STATUS,
         p1: 0,
         p2: 0,
         body: &[],
@@ -77,17 +94,30 @@ fn status_command(le: Option<u16>) -> Command<'static>
     }
 }
 
+// A session whose channel 1 has the ISD-R, with a byte waiting there.
+fn session_with_isdr() -> Session {
+    let mut session = fresh(true, Some(1));
+    let waiting = Chan::at_isdr().with_pending(&[0x01]);
+    session.apply(&SessionChange::own(1, Some(waiting)));
+    session
+}
+
 #[test]
 fn an_answer_waits_on_its_own_channel(rt: HostRuntime) {
-    let session = fresh(true, Some(1)).with_pending(1, &[0x01]);
+    let mut session = session_with_isdr();
+    let before = session.copy();
+    assert!(rt; session.channel_at(0).is_some());
+    let given = deliver(&session, &status_command(Some(2)), &[0x62, 0x00]);
+    assert_eq!(rt; given.answer.sw, Sw(0x9000));
+    session.apply(&given.session);
+    assert!(rt; session == before);
     assert!(rt; session.channel_at(0).is_some());
     let decided = deliver(&session, &status_command(None), &[0x62, 0x00]);
     assert_eq!(rt; decided.answer.sw, Sw(0x6102));
     assert!(rt; decided.change.is_none());
-    assert!(rt; waits(&decided.session, 0, &[0x62, 0x00]));
-    assert!(rt; waits(&decided.session, 1, &[0x01]));
-    let given = deliver(&session, &status_command(Some(2)), &[0x62, 0x00]);
-    assert!(rt; given.session == session);
+    session.apply(&decided.session);
+    assert!(rt; waits(&session, 0, &[0x62, 0x00]));
+    assert!(rt; waits(&session, 1, &[0x01]));
 }
 
 // Whether the channel is open with the ISD-R selected, and none where it is closed.
@@ -118,19 +148,62 @@ fn a_fresh_session_has_channel_0_and_the_kept_one(rt: HostRuntime) {
 
 #[test]
 fn a_refused_command_changes_nothing(rt: HostRuntime) {
-    let session = fresh(true, Some(1)).with_pending(1, &[0x01]);
     assert!(rt; require(true, Sw::WRONG_CLASS).is_ok());
     assert!(rt; require(false, Sw::WRONG_CLASS) == Err(Sw::WRONG_CLASS));
+    assert!(rt; require_active(Life::Active).is_ok());
+    assert!(rt; require_active(Life::Deactivated) == Err(Sw(0x6984)));
+    assert!(rt; require_active(Life::Terminated) == Err(Sw(0x6985)));
     let rows = [
-        refuse(&session, Sw::WRONG_CLASS),
-        conclude(&session, Err(Sw::WRONG_CLASS)),
+        refuse(Sw::WRONG_CLASS),
+        conclude(Err(Sw::WRONG_CLASS)),
+        answer_alone(Answer::status(Sw::WRONG_CLASS)),
     ];
     for refused in &rows {
         assert_eq!(rt; refused.answer.sw, Sw(0x6E00));
         assert!(rt; refused.answer.body.is_empty());
-        assert!(rt; refused.session == session);
+        assert!(rt; refused.session == SessionChange::none());
         assert!(rt; refused.change.is_none());
     }
+}
+
+// A channel at a record of an EF in the MF.
+fn at_record(id: u16, pointer: u8) -> Chan {
+    let mut chan = Chan::at_master();
+    chan.file = Some(Path::from_slice(&[id]));
+    chan.pointer = pointer;
+    chan
+}
+
+#[test]
+fn the_parts_of_a_change_are_independent(rt: HostRuntime) {
+    let mut session = fresh(true, None);
+    session.apply(&SessionChange {
+        own: Some(ChannelChange {
+            channel: 0,
+            after: Some(at_record(0x6F3A, 3)),
+        }),
+        other: Some(ChannelChange {
+            channel: 2,
+            after: Some(at_record(0x6F3A, 4)),
+        }),
+        verified: Some(session.verified_with(32, true)),
+        refresh: Some(Refresh::Fetched),
+        new_end: None,
+    });
+    assert!(rt; session.is_verified(32) && !session.is_verified(1));
+    assert!(rt; session.refresh == Refresh::Fetched);
+    session.apply(&SessionChange {
+        new_end: Some(NewEnd {
+            path: Path::from_slice(&[0x6F3A]),
+            records: 3,
+        }),
+        ..SessionChange::none()
+    });
+    assert!(rt; session.channel_at(0) == Some(&at_record(0x6F3A, 3)));
+    assert!(rt; session.channel_at(2) == Some(&at_record(0x6F3A, 0)));
+    session.apply(&SessionChange::own(2, None));
+    assert!(rt; session.channel_at(2).is_none());
+    assert_eq!(rt; session.verified_with(32, false), 0);
 }
 
 #[test]
@@ -138,6 +211,7 @@ fn the_laws_of_sessions_are_callable() {
     fresh_sessions_have_their_channels();
     answers_stay_on_their_channel();
     sessions_suit_their_cards();
+    verified_pins_stand_apart();
 }
 
 #[test]

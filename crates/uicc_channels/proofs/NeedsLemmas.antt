@@ -30,18 +30,20 @@ pub record IsWellFormed (needs : Needs) : Type 0 where
   pub parameters : needs.parameters ≡ true
   pub lengths : needs.lengths ≡ true
 
-pub file_refused : (needs : Needs) (sw : Sw) → IsWellFormed needs → needs.file ≡ Some sw → first_of (refusals needs) ≡ Some sw
-file_refused needs sw form file =
-    rw (form.known.channel, form.known.instruction, form.class, form.parameters, form.lengths, file) refl
+pub file_refused : (needs : Needs) (sw : Sw) → IsWellFormed needs → needs.template ≡ None → needs.file ≡ Some sw → first_of (refusals needs) ≡ Some sw
+file_refused needs sw form template file =
+    rw (form.known.channel, form.known.instruction, form.class, form.parameters, form.lengths, template, file) refl
 
 -- the file is there, and no more is asked of it
 pub record IsReady (needs : Needs) : Type 0 where
   pub form : IsWellFormed needs
+  pub template : needs.template ≡ None
   pub file : needs.file ≡ None
   pub kind : needs.kind ≡ true
   pub life : needs.life ≡ None
+  pub description : needs.description ≡ None
   pub access : needs.access ≡ true
 
 pub own_decides : (needs : Needs) → IsReady needs → first_of (refusals needs) ≡ needs.own
 own_decides needs ready =
-    rw (ready.form.known.channel, ready.form.known.instruction, ready.form.class, ready.form.parameters, ready.form.lengths, ready.file, ready.kind, ready.life, ready.access) (or_none needs.own)
+    rw (ready.form.known.channel, ready.form.known.instruction, ready.form.class, ready.form.parameters, ready.form.lengths, ready.template, ready.file, ready.kind, ready.life, ready.description, ready.access) (or_none needs.own)
