@@ -4,7 +4,8 @@ use Rattle.apdu_codec.specs.declared.commands.Class.TheVariants.{Standard, Speci
 use Rattle.apdu_codec.specs.declared.status.Sw.{Sw}
 use Rattle.apdu_codec.specs.declared.status.TheConstants.Sw.{CHANNEL_NOT_SUPPORTED, SECURE_MESSAGING_NOT_SUPPORTED, WRONG_CLASS}
 
--- ETSI TS 102 221, coding of the class byte: this one stands for a command of this class on this channel
+-- ETSI TS 102 221, coding of the class byte: this one stands for a command of this class on this
+-- channel
 abbrev pub HasClass : ℕ → Class → ℕ → Type 0
 HasClass byte Standard channel = (byte ≡ channel) × (channel < 4)
 HasClass byte Special channel = (byte ≡ 0x80 + channel) × (channel < 4)
@@ -20,7 +21,8 @@ is_taken byte = is_within 0x00 0x03 byte || is_within 0x80 0x83 byte
 -- those that ask for secure messaging
 abbrev pub is_secured : ℕ → Bool
 is_secured byte =
-    is_within 0x04 0x0F byte || is_within 0x84 0x8F byte || is_within 0x60 0x6F byte || is_within 0xE0 0xEF byte
+    is_within 0x04 0x0F byte || is_within 0x84 0x8F byte || is_within 0x60 0x6F byte
+    || is_within 0xE0 0xEF byte
 
 -- those that name one of the channels 4 to 19
 abbrev pub is_of_further_channel : ℕ → Bool

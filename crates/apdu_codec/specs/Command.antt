@@ -17,7 +17,15 @@ pub record Apdu : Type 0 where
 
 -- the fields of a command that was read
 abbrev pub apdu_of : Command → Apdu
-apdu_of c = record { channel = c.channel; class = c.class; ins = c.ins; p1 = c.p1; p2 = c.p2; body = c.body.now; le = c.le }
+apdu_of c = record {
+  channel = c.channel;
+  class = c.class;
+  ins = c.ins;
+  p1 = c.p1;
+  p2 = c.p2;
+  body = c.body.now;
+  le = c.le;
+}
 
 -- a body whose length one byte Lc can say; Lc isn't 00
 abbrev pub IsBody : List ℕ → Type 0
@@ -27,13 +35,15 @@ IsBody body = (0 < length body) × (length body < 256)
 abbrev pub expected : ℕ → ℕ
 expected byte = if byte == 0 then 256 else byte
 
--- ISO/IEC 7816-4: the four short cases of what follows the header: nothing, Le, Lc and body, Lc, body and Le
+-- ISO/IEC 7816-4: the four short cases of what follows the header: nothing, Le, Lc and body, Lc,
+-- body and Le
 abbrev pub SpellsTail : List ℕ → List ℕ → Option ℕ → Type 0
 SpellsTail tail body le =
     ((tail ≡ []) × (body ≡ []) × (le ≡ None))
     ⊎ (((byte : ℕ) × (byte < 256) × (tail ≡ byte ∷ []) × (body ≡ []) × (le ≡ Some (expected byte)))
     ⊎ ((IsBody body × (tail ≡ length body ∷ body) × (le ≡ None))
-    ⊎ ((byte : ℕ) × (byte < 256) × IsBody body × (tail ≡ length body ∷ body ++ byte ∷ []) × (le ≡ Some (expected byte)))))
+    ⊎ ((byte : ℕ) × (byte < 256) × IsBody body × (tail ≡ length body ∷ body ++ byte ∷ [])
+    × (le ≡ Some (expected byte)))))
 
 -- these bytes spell this command: a header of four bytes, and one of the four cases
 abbrev pub Spells : List ℕ → Apdu → Type 0
@@ -41,7 +51,8 @@ Spells bytes c =
     (class_byte : ℕ) × (tail : List ℕ) × (bytes ≡ class_byte ∷ c.ins ∷ c.p1 ∷ c.p2 ∷ tail)
     × HasClass class_byte c.class c.channel × SpellsTail tail c.body c.le
 
--- the status word for bytes that spell no command: the length of the header, the class, the length of the rest
+-- the status word for bytes that spell no command: the length of the header, the class, the length
+-- of the rest
 abbrev pub refusal : List ℕ → Sw
 refusal (class_byte ∷ _ ∷ _ ∷ _ ∷ _) = unwrap_or (class_refusal class_byte) WRONG_LENGTH
 refusal _ = WRONG_LENGTH

@@ -2,7 +2,8 @@ use Rattle.std.specs.Prelude.{ℕ, Bool, false, ◌==◌, ◌||◌, List, [], �
 use Rattle.apdu_codec.specs.declared.commands.Class.{Class}
 use Rattle.apdu_codec.specs.declared.commands.Class.TheVariants.{Standard, Special}
 
--- the instructions under a class byte of ISO/IEC 7816-4 (ETSI TS 102 221 and TS 102 222, coding of the class byte)
+-- the instructions under a class byte of ISO/IEC 7816-4 (ETSI TS 102 221 and TS 102 222, coding of
+-- the class byte)
 abbrev pub standard_instructions : List ℕ
 standard_instructions =
     0xA4 ∷ 0xB0 ∷ 0xD6 ∷ 0xB2 ∷ 0xDC ∷ 0xA2 ∷ 0x20 ∷ 0x24 ∷ 0x26 ∷ 0x28 ∷ 0x2C

@@ -5,7 +5,8 @@ use Rattle.apdu_codec.specs.declared.status.Sw.{Sw}
 abbrev pub bytes_waiting : ℕ → Sw
 bytes_waiting count = record { 0 = 0x6100 + count % 256 }
 
--- `6CXX`: the expected length was wrong, and this many bytes can be had, of which 256 is written as 00
+-- `6CXX`: the expected length was wrong, and this many bytes can be had, of which 256 is written
+-- as 00
 abbrev pub wrong_le : ℕ → Sw
 wrong_le count = record { 0 = 0x6C00 + count % 256 }
 

@@ -41,9 +41,10 @@ struct Tail<'a> {
 ///
 /// The class bytes 00 to 03 and 80 to 83 are taken, on the channels 0 to 3.
 ///
-/// Fewer than 4 bytes are refused with `6700`, then the class bytes of secure messaging with `6882`,
-/// those of the channels 4 to 19 with `6881` and all others with `6E00`, and then a wrong length of
-/// what follows the header with `6700`. Neither an Lc of 00 nor extended lengths are taken.
+/// Fewer than 4 bytes are refused with `6700`, then the class bytes of secure messaging with
+/// `6882`, those of the channels 4 to 19 with `6881` and all others with `6E00`, and then a wrong
+/// length of what follows the header with `6700`. Neither an Lc of 00 nor extended lengths are
+/// taken.
 pub fn read_command(bytes: &[u8]) -> Result<Command<'_>, Sw>
     ensures spelled { IfOk result (λ c. Spells bytes.now (apdu_of c)) }
     ensures only { IfOk result (λ c. (d : Apdu) → Spells bytes.now d → d ≡ apdu_of c) }
@@ -71,7 +72,8 @@ pub fn read_command(bytes: &[u8]) -> Result<Command<'_>, Sw>
 fn read_class(byte: u8) -> Result<(Class, u8), Sw>
     ensures taken { IfOk result (λ r. HasClass byte r.0 r.1) }
     ensures only { IfOk result
-        (λ r. (class : Class) (channel : ℕ) → HasClass byte class channel → (class ≡ r.0) × (channel ≡ r.1)) }
+        (λ r. (class : Class) (channel : ℕ) → HasClass byte class channel → (class ≡ r.0)
+        × (channel ≡ r.1)) }
     ensures none { OnErr result ((class : Class) (channel : ℕ) → ¬ HasClass byte class channel) }
     ensures not_refused { OnOk result (class_refusal byte ≡ None) }
     ensures refused { IfErr result (λ sw. class_refusal byte ≡ Some sw) }

@@ -1,4 +1,5 @@
-//! Instruction codes (INS) of a UICC: those of ETSI TS 102 221, of ETSI TS 102 222 and of GSMA SGP.22.
+//! Instruction codes (INS) of a UICC: those of ETSI TS 102 221, of ETSI TS 102 222 and of GSMA
+//! SGP.22.
 ghost use Rattle.std.specs.Prelude.{◌≡◌};
 ghost use Rattle.apdu_codec.specs.Ins.{class_fits};
 
@@ -108,8 +109,8 @@ fn is_special(ins: u8) -> bool
     )
 }
 
-/// Whether a command of this instruction may have a class byte of this class. GET RESPONSE may have one of either; of a
-/// code that is no instruction of a UICC it says no.
+/// Whether a command of this instruction may have a class byte of this class. GET RESPONSE may
+/// have one of either; of a code that is no instruction of a UICC it says no.
 pub fn class_fits(ins: u8, class: Class) -> bool
     ensures { result ≡ class_fits ins class }
 {

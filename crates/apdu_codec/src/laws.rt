@@ -7,7 +7,8 @@ use crate::ins::*;
 /// Bytes spell at most one command, and each list of bytes spells one or none.
 pub fn bytes_have_one_meaning()
     ensures once { (bytes : List ℕ) (c d : Apdu) → Spells bytes c → Spells bytes d → c ≡ d }
-    ensures decided { (bytes : List ℕ) → ((c : Apdu) × Spells bytes c) ⊎ ((c : Apdu) → ¬ Spells bytes c) }
+    ensures decided { (bytes : List ℕ) → ((c : Apdu) × Spells bytes c)
+        ⊎ ((c : Apdu) → ¬ Spells bytes c) }
 {}
 
 /// Each status word has the number that ETSI TS 102 221 gives it.

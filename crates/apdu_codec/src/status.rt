@@ -2,7 +2,8 @@
 ghost use Rattle.std.specs.Prelude.{◌≡◌, ◌/◌, ◌%◌, ◌<◌, ◌≤◌, [], ◌∷◌};
 ghost use Rattle.apdu_codec.specs.Sw.{bytes_waiting, tries_left, wrong_le};
 
-/// A status word, SW1 and SW2, with SW1 in the high byte (ETSI TS 102 221, "Status conditions returned by the UICC").
+/// A status word, SW1 and SW2, with SW1 in the high byte (ETSI TS 102 221, "Status conditions
+/// returned by the UICC").
 #[derive(Clone, Copy, Debug, PartialEq, Eq)]
 pub struct Sw(pub u16);
 

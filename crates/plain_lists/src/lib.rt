@@ -1,4 +1,5 @@
-//! Lists that contracts see as plain lists: one of bounded length that takes no memory, and one that grows.
+//! Lists that contracts see as plain lists: one of bounded length that takes no memory, and one
+//! that grows.
 #![tactic(auto)]
 
 mod long_list;

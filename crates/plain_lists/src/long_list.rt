@@ -3,8 +3,8 @@ ghost use Rattle.std.specs.Prelude.{◌≡◌, [], ◌∷◌, ◌++◌, length, 
 use std::alloc::{AllocError, Global};
 use std::marker::Model;
 
-/// A list that grows. It keeps the allocator that it was made with. Contracts see the list of its elements,
-/// and never how much room it has.
+/// A list that grows. It keeps the allocator that it was made with. Contracts see the list of its
+/// elements, and never how much room it has.
 #[derive(Debug, Drop)]
 pub struct LongList<T> {
     elements: Vec<T>,

@@ -96,7 +96,8 @@ impl<T: Drop, const CAP: usize> ShortList<T, CAP> {
         self.elements.push(element);
     }
 
-    /// Puts an element in the place of the one at `index`, counted from 0, and returns that one. It moves no other.
+    /// Puts an element in the place of the one at `index`, counted from 0, and returns that one.
+    /// It moves no other.
     pub fn replace(&mut self, index: usize, element: T) -> T
         requires { index < length self.old }
         ensures value { slice_get self.old index ≡ Some result }

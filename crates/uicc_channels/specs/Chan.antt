@@ -8,7 +8,14 @@ use Rattle.uicc_channels.specs.declared.chan.Chan.{Chan}
 
 -- a channel at the MF, with nothing more selected and nothing waiting
 abbrev pub at_master : Chan
-at_master = record { isdr = false; app = None; dir = master; file = None; pointer = 0; pending = [] }
+at_master = record {
+  isdr = false;
+  app = None;
+  dir = master;
+  file = None;
+  pointer = 0;
+  pending = [];
+}
 
 -- a channel on which the ISD-R is selected, at the MF
 abbrev pub at_isdr : Chan
@@ -25,11 +32,16 @@ current_file rows chan = option_and_then (λ path. file_at path rows) chan.file
 -- a card without files has the MF's path alone; else the directory is there and holds files
 abbrev pub IsDirectoryIn : List FileRow → List ℕ → Type 0
 IsDirectoryIn rows dir =
-    ((rows ≡ []) × (dir ≡ master)) ⊎ IsSomeAnd (file_at dir rows) (λ row. IsTrue (holds_files row.head.kind))
+    ((rows ≡ []) × (dir ≡ master)) ⊎ IsSomeAnd (file_at dir rows)
+    (λ row. IsTrue (holds_files row.head.kind))
 
--- what a channel names is among a card's files: an application, a directory, an EF and a record of it
+-- what a channel names is among a card's files: an application, a directory, an EF and a record of
+-- it
 pub record StandsAmong (rows : List FileRow) (chan : Chan) : Type 0 where
-  pub app : IfSome chan.app (λ path. IsSomeAnd (file_at path rows) (λ row. row.head.kind ≡ Application))
+  pub app : IfSome chan.app (λ path. IsSomeAnd (file_at path rows)
+      (λ row. row.head.kind ≡ Application))
   pub dir : IsDirectoryIn rows chan.dir
-  pub file : IfSome chan.file (λ path. IsSomeAnd (file_at path rows) (λ row. holds_files row.head.kind ≡ false))
-  pub pointer : (chan.pointer ≡ 0) ⊎ IsSomeAnd (current_file rows chan) (λ row. HasRecord row.head chan.pointer)
+  pub file : IfSome chan.file (λ path. IsSomeAnd (file_at path rows)
+      (λ row. holds_files row.head.kind ≡ false))
+  pub pointer : (chan.pointer ≡ 0) ⊎ IsSomeAnd (current_file rows chan)
+      (λ row. HasRecord row.head chan.pointer)

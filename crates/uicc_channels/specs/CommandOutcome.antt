@@ -16,7 +16,11 @@ pub record CommandOutcome : Type 0 where
 -- what a decision on a command of this session comes to
 abbrev pub outcome_of : Session → Decided → CommandOutcome
 outcome_of session decided =
-    record { answer = decided.answer; session = session_after session decided.session; change = decided.change }
+    record {
+      answer = decided.answer;
+      session = session_after session decided.session;
+      change = decided.change;
+    }
 
 -- an answer that changes nothing
 abbrev pub answering : Session → Answer → CommandOutcome

@@ -22,7 +22,8 @@ le_refusal (Some le) body = if takes le (length body) then None else Some (wrong
 abbrev pub answered : Sw → Option ℕ → List ℕ → Answer
 answered success None body = status_alone (bytes_waiting (length body))
 answered success (Some le) body =
-    if takes le (length body) then record { body = body; sw = success } else status_alone (wrong_le (length body))
+    if takes le (length body) then record { body = body; sw = success }
+    else status_alone (wrong_le (length body))
 
 -- with no Le the body waits on the channel
 abbrev pub waiting : Option ℕ → Session → ℕ → List ℕ → Session
@@ -32,4 +33,8 @@ waiting (Some le) session channel body = session
 -- ETSI TS 102 221, GET RESPONSE: what comes of a command that has this answer body
 abbrev pub delivered : Session → Apdu → List ℕ → CommandOutcome
 delivered session c body =
-    record { answer = answered OK c.le body; session = waiting c.le session c.channel body; change = None }
+    record {
+      answer = answered OK c.le body;
+      session = waiting c.le session c.channel body;
+      change = None;
+    }

@@ -6,7 +6,8 @@ use Rattle.apdu_codec.specs.declared.status.TheConstants.Sw.{CHANNEL_NOT_SUPPORT
 use Rattle.uicc_channels.specs.Session.{channel_at}
 use Rattle.uicc_channels.specs.declared.session.Session.{Session}
 
--- What a command needs, each either met or with the status word that refuses it (ETSI TS 102 221, status conditions).
+-- What a command needs, each either met or with the status word that refuses it (ETSI TS 102 221,
+-- status conditions).
 pub record Needs : Type 0 where
   -- its channel is open
   pub channel : Bool

@@ -19,14 +19,16 @@ IsOpen session number = IsSome (channel_at session number)
 
 -- the session with this in the place of that channel
 abbrev pub with_channel : Session → ℕ → Option Chan → Session
-with_channel session number channel = record session { channels = slice_set session.channels number channel }
+with_channel session number channel =
+    record session { channels = slice_set session.channels number channel }
 
 -- the session with these bytes waiting on that channel
 abbrev pub with_pending : Session → ℕ → List ℕ → Session
 with_pending session number bytes =
     with_channel session number (option_map (holding bytes) (channel_at session number))
 
--- ETSI TS 102 221, after a reset: nothing is verified, and the basic channel alone is open, at the MF
+-- ETSI TS 102 221, after a reset: nothing is verified, and the basic channel alone is open, at the
+-- MF
 abbrev pub reset_session : Bool → Session
 reset_session refresh =
     record {
@@ -40,8 +42,8 @@ abbrev pub fresh_session : Bool → Option ℕ → Session
 fresh_session refresh None = reset_session refresh
 fresh_session refresh (Some kept) = with_channel (reset_session refresh) kept (Some at_isdr)
 
--- a session of a card with these files: it has a place for each channel, its basic channel is open, and what its
--- open channels name is there
+-- a session of a card with these files: it has a place for each channel, its basic channel is
+-- open, and what its open channels name is there
 pub record Suits (session : Session) (rows : List FileRow) : Type 0 where
   pub places : length session.channels ≡ CHANNELS
   pub basic : IsOpen session 0

@@ -13,7 +13,8 @@ no_change = record { own = None; other = None; verified = None; refresh = None; 
 
 -- the command's own channel is left so
 abbrev pub own_change : ℕ → Option Chan → SessionChange
-own_change channel after = record no_change { own = Some (record { channel = channel; after = after }) }
+own_change channel after =
+    record no_change { own = Some (record { channel = channel; after = after }) }
 
 -- the session with what stands afterwards in the place of a channel
 abbrev pub with_place : Session → Option ChannelChange → Session
@@ -28,12 +29,14 @@ is_current (Some file) path = same_path file path
 -- a channel without a record pointer past the new end of its current EF
 abbrev pub within_end : NewEnd → Chan → Chan
 within_end end chan =
-    if is_current chan.file end.path && nat_lt end.records chan.pointer then record chan { pointer = 0 } else chan
+    if is_current chan.file end.path && nat_lt end.records chan.pointer
+    then record chan { pointer = 0 } else chan
 
 -- the session without record pointers past the new end of a file
 abbrev pub with_end : Session → Option NewEnd → Session
 with_end session None = session
-with_end session (Some end) = record session { channels = map (option_map (within_end end)) session.channels }
+with_end session (Some end) =
+    record session { channels = map (option_map (within_end end)) session.channels }
 
 -- the session with other verified PINs and another state of its REFRESH
 abbrev pub with_states : Session → SessionChange → Session
@@ -46,4 +49,6 @@ with_states session change =
 -- the session after a command: its parts are independent, and a part that is none changes nothing
 abbrev pub session_after : Session → SessionChange → Session
 session_after session change =
-    with_end (with_place (with_place (with_states session change) change.own) change.other) change.new_end
+    with_end
+    (with_place (with_place (with_states session change) change.own) change.other)
+    change.new_end

@@ -48,7 +48,8 @@ impl Chan {
         }
     }
 
-    /// A channel on which the ISD-R is selected: it stands at the MF, with no application, no EF and nothing waiting.
+    /// A channel on which the ISD-R is selected: it stands at the MF, with no application, no EF
+    /// and nothing waiting.
     pub fn at_isdr() -> Self
         ensures { result ≡ at_isdr }
     {

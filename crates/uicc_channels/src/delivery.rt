@@ -15,11 +15,13 @@ fn takes(le: u16, count: u16) -> bool
     le == 256 || le == count
 }
 
-/// Refuses an Le with which an answer body of 1 to 256 bytes isn't given: `6CXX` with the body's length.
+/// Refuses an Le with which an answer body of 1 to 256 bytes isn't given: `6CXX` with the body's
+/// length.
 pub fn require_le(le: Option<u16>, body: &[u8]) -> Result<(), Sw>
     requires some { 1 ≤ length body.now }
     requires most { length body.now ≤ 256 }
-    ensures { MatchResult result (λ _. le_refusal le body.now ≡ None) (λ sw. le_refusal le body.now ≡ Some sw) }
+    ensures { MatchResult result (λ _. le_refusal le body.now ≡ None)
+        (λ sw. le_refusal le body.now ≡ Some sw) }
 {
     let count = body.len() as u16;
     match le {
@@ -30,8 +32,9 @@ pub fn require_le(le: Option<u16>, body: &[u8]) -> Result<(), Sw>
 
 /// The answer to a command with this Le that has an answer body of 1 to 256 bytes.
 ///
-/// With no Le the body waits for GET RESPONSE and the status is `61XX`. With an Le of 00, read as 256, or of the
-/// body's length the body is given with the status word for success. With another Le the answer is `6CXX`.
+/// With no Le the body waits for GET RESPONSE and the status is `61XX`. With an Le of 00, read as
+/// 256, or of the body's length the body is given with the status word for success. With another
+/// Le the answer is `6CXX`.
 pub fn delivery_answer(success: Sw, le: Option<u16>, body: &[u8]) -> Answer
     requires some { 1 ≤ length body.now }
     requires most { length body.now ≤ 256 }
@@ -48,10 +51,12 @@ pub fn delivery_answer(success: Sw, le: Option<u16>, body: &[u8]) -> Answer
     }
 }
 
-/// Answers a command on an open channel that has an answer body of 1 to 256 bytes (ETSI TS 102 221, GET RESPONSE).
+/// Answers a command on an open channel that has an answer body of 1 to 256 bytes (ETSI TS 102
+/// 221, GET RESPONSE).
 ///
-/// The answer is that of `delivery_answer` with `9000` for success. With no Le the body waits on the command's channel,
-/// in place of what waited there; else the session stays as it is. It takes no memory.
+/// The answer is that of `delivery_answer` with `9000` for success. With no Le the body waits on
+/// the command's channel, in place of what waited there; else the session stays as it is. It takes
+/// no memory.
 pub fn deliver(session: &Session, command: &Command, body: &[u8]) -> Decided
     requires open { IsOpen session.now command.now.channel }
     requires some { 1 ≤ length body.now }
@@ -69,7 +74,8 @@ pub fn deliver(session: &Session, command: &Command, body: &[u8]) -> Decided
 fn left_waiting(session: &Session, command: &Command, body: &[u8]) -> SessionChange
     requires open { IsOpen session.now command.now.channel }
     requires most { length body.now ≤ 256 }
-    ensures { session_after session.now result ≡ waiting command.now.le session.now command.now.channel body.now }
+    ensures { session_after session.now result
+        ≡ waiting command.now.le session.now command.now.channel body.now }
 {
     match command.le {
         None => {

@@ -1,5 +1,5 @@
-//! The session of a card: its logical channels (ETSI TS 102 221), what waits on them, the verified PINs and the
-//! REFRESH state (ETSI TS 102 223).
+//! The session of a card: its logical channels (ETSI TS 102 221), what waits on them, the verified
+//! PINs and the REFRESH state (ETSI TS 102 223).
 //!
 //! Nothing here takes memory.
 #![tactic(auto)]

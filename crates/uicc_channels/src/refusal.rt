@@ -18,7 +18,8 @@ pub fn require(met: bool, sw: Sw) -> Result<(), Sw>
 
 /// Refuses an EF that is deactivated (`6984`) or terminated (`6985`).
 pub fn require_active(life: Life) -> Result<(), Sw>
-    ensures { MatchResult result (λ _. life_refusal life ≡ None) (λ sw. life_refusal life ≡ Some sw) }
+    ensures { MatchResult result (λ _. life_refusal life ≡ None)
+        (λ sw. life_refusal life ≡ Some sw) }
 {
     match life {
         Life::Active => Ok(()),

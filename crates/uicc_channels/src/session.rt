@@ -129,8 +129,8 @@ fn reset_session(refresh: bool) -> Session
 
 /// The session after a reset: nothing is verified, and channel 0 alone is open, at the MF.
 ///
-/// A kept channel is open too, with the ISD-R selected at the MF; this may be channel 0. With `refresh` a REFRESH
-/// waits to be fetched.
+/// A kept channel is open too, with the ISD-R selected at the MF; this may be channel 0. With
+/// `refresh` a REFRESH waits to be fetched.
 pub fn fresh(refresh: bool, kept: Option<u8>) -> Session
     requires { IfSome kept (λ number. number < CHANNELS) }
     ensures { result ≡ fresh_session refresh kept }

@@ -7,7 +7,8 @@ use crate::session::copy_place;
 use crate::{Chan, Refresh, Session};
 use file_rows::Path;
 
-/// What stands afterwards in the place of a channel: the channel as it then is, or none where it is closed.
+/// What stands afterwards in the place of a channel: the channel as it then is, or none where it
+/// is closed.
 #[derive(Debug, PartialEq, Eq, Drop)]
 pub struct ChannelChange {
     pub channel: u8,
@@ -99,7 +100,8 @@ impl Session {
 
     fn drop_pointer(&mut self, number: usize, end: &NewEnd)
         requires { number < length self.old.channels }
-        ensures { self.new ≡ with_channel self.old number (option_map (within_end end.now) (channel_at self.old number)) }
+        ensures { self.new ≡ with_channel self.old number
+            (option_map (within_end end.now) (channel_at self.old number)) }
     {
         let place = self.channels.replace(number, None);
         let _none = self.channels.replace(number, within_end(place, end));

@@ -5,7 +5,8 @@ use super::*;
 use apdu_codec::{Answer, Class, Command, Sw, ins};
 use file_rows::{Life, Path};
 
-// An answer body of so many bytes, the Le of its command, the status word, and how many of its bytes are given.
+// An answer body of so many bytes, the Le of its command, the status word, and how many of its
+// bytes are given.
 #[derive(Drop)]
 struct DeliveryRow {
     count: usize,

@@ -1,0 +1,2 @@
+pub mod PinCommand
+pub mod PinOutcome
