@@ -1,4 +1,4 @@
-use Rattle.std.proofs.Common.{◌≡◌, ◌≢◌, ◌≤◌, ℕ, ◌-◌, Bool, true, false, cond, not, ◌&&◌, List, [], ◌∷◌, length, take, drop, Option, Some, None, IfSome, refl, sym, ◌∙◌, ap, subst, arith}
+use Rattle.std.proofs.Common.{◌≡◌, ◌≢◌, ◌≤◌, ℕ, Bool, true, false, cond, not, ◌&&◌, List, [], ◌∷◌, length, take, Option, Some, None, IfSome, refl, sym, ◌∙◌, ap, subst, arith}
 use Rattle.std.proofs.Math.Nat.{le_refl, le_trans}
 use Rattle.std.proofs.lemmas.Bool.{eq-eqb}
 use Rattle.std.specs.Prelude.{◌==◌}
@@ -8,7 +8,7 @@ use Rattle.file_rows.specs.declared.pin.PinRow.{PinRow}
 use Rattle.file_rows.specs.declared.pin.Puk.{Puk}
 use Rattle.pin_state.specs.PinCommand.{AllWrongAt, IsNoRightUnblock, IsWrongAt, NoneUnblocks, PinCommand, after, outcome}
 use Rattle.pin_state.specs.PinCommand.PinCommand.{Verify, Change, Disable, Enable, Unblock}
-use Rattle.pin_state.specs.PinOutcome.{PinOutcome, asked, at_enabled, change, disable, enable, presented, unblock, unblock_with, unblocked, unchanged, verify, with_all_tries, wrong}
+use Rattle.pin_state.specs.PinOutcome.{PinOutcome, at_enabled, presented, unblock, unblock_with, unblocked, wrong}
 
 -- the value of a PIN's PUK, where it has one
 abbrev puk_value : Option Puk → Option (List ℕ)

@@ -1,2 +1,4 @@
 pub mod CommandLemmas
 pub mod DistanceLemmas
+pub mod FormLemmas
+pub mod SameLemmas

@@ -1,2 +1,3 @@
 pub mod PinCommand
 pub mod PinOutcome
+pub mod SamePin

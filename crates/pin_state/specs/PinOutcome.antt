@@ -1,23 +1,17 @@
 -- What a PIN command comes to at one PIN (ETSI TS 102 221).
-use Rattle.std.specs.Prelude.{ℕ, ◌-◌, Bool, true, false, not, ◌==◌, ◌&&◌, if◌then◌else◌, List, length, take, drop, nat_eq, Option, Some, None, unwrap_or}
+use Rattle.std.specs.Prelude.{ℕ, ◌-◌, Bool, true, false, not, ◌==◌, ◌&&◌, if◌then◌else◌, List, length, take, drop, Option, Some, None}
 use Rattle.std.specs.Str.{bytes_eq}
 use Rattle.apdu_codec.specs.Sw.{tries_left}
 use Rattle.apdu_codec.specs.declared.status.Sw.{Sw}
 use Rattle.apdu_codec.specs.declared.status.TheConstants.Sw.{DATA_BLOCKED, DATA_NOT_FOUND, OK, PIN_BLOCKED, WRONG_LENGTH}
 use Rattle.file_rows.specs.declared.pin.PinRow.{PinRow}
 use Rattle.file_rows.specs.declared.pin.Puk.{Puk}
-use Rattle.pin_state.specs.declared.decision.PinDecision.{PinDecision}
 
 -- the status word, the PIN after the command, and whether it is verified then
 pub record PinOutcome : Type 0 where
   pub sw : Sw
   pub pin : PinRow
   pub verified : Bool
-
--- what a decision on a PIN comes to: without a new row the PIN is as it was
-abbrev pub outcome_of : PinRow → PinDecision → PinOutcome
-outcome_of pin decision =
-    record { sw = decision.sw; pin = unwrap_or decision.row pin; verified = decision.verified }
 
 -- nothing changes
 abbrev pub unchanged : PinRow → Bool → Sw → PinOutcome

@@ -1,7 +1,8 @@
 ghost use Rattle.std.specs.Prelude.{◌≡◌, ◌≢◌, ◌<◌, ◌≤◌, ◌*◌, length, false, true, None, Some, IfSome};
 ghost use Rattle.file_rows.specs.PinRow.{AreTries, IsPin};
 ghost use Rattle.file_rows.specs.declared.pin.PinRow.{PinRow};
-ghost use Rattle.pin_state.specs.PinOutcome.{asked, at_enabled, change as changed_pin, disable as disabled_pin, enable as enabled_pin, outcome_of, presented, unblock as unblocked_pin, unblock_with, unblocked, unchanged, verify as verified_pin, with_all_tries, wrong};
+ghost use Rattle.pin_state.specs.SamePin.{decision_of};
+ghost use Rattle.pin_state.specs.PinOutcome.{asked, at_enabled, change as changed_pin, disable as disabled_pin, enable as enabled_pin, presented, unblock as unblocked_pin, unblock_with, unblocked, unchanged, verify as verified_pin, with_all_tries, wrong};
 
 use crate::value::{VALUE_LEN, is_right};
 use apdu_codec::Sw;
@@ -19,8 +20,7 @@ pub struct PinDecision {
 
 // A status word with which nothing changes.
 fn unchanged(verified: bool, sw: Sw) -> PinDecision
-    ensures value { (pin : PinRow) → outcome_of pin result ≡ unchanged pin verified sw }
-    ensures same { result.row ≡ None }
+    ensures { (pin : PinRow) → result ≡ decision_of pin (unchanged pin verified sw) }
 {
     PinDecision {
         sw,
@@ -31,9 +31,8 @@ fn unchanged(verified: bool, sw: Sw) -> PinDecision
 
 // The PIN is this one afterwards.
 fn changed(pin: &PinRow, sw: Sw, after: PinRow, verified: bool) -> PinDecision
-    ensures value { outcome_of pin.now result
-        ≡ record { sw = sw; pin = after; verified = verified } }
-    ensures changes { IfSome result.row (λ row. row ≢ pin.now) }
+    ensures { result
+        ≡ decision_of pin.now (record { sw = sw; pin = after; verified = verified }) }
 {
     if after == *pin {
         return PinDecision {
@@ -63,8 +62,7 @@ fn with_all_tries(pin: &PinRow) -> PinRow
 fn wrong(pin: &PinRow) -> PinDecision
     requires pin { IsPin pin.now }
     requires left { 1 ≤ pin.now.left }
-    ensures value { outcome_of pin.now result ≡ wrong pin.now }
-    ensures changes { IfSome result.row (λ row. row ≢ pin.now) }
+    ensures { result ≡ decision_of pin.now (wrong pin.now) }
 {
     let left = pin.left - 1;
     let after = PinRow { left, ..pin.copy() };
@@ -77,9 +75,8 @@ fn presented(pin: &PinRow, value: &[u8], right: PinRow, verified: bool) -> PinDe
     requires pin { IsPin pin.now }
     requires left { 1 ≤ pin.now.left }
     requires length { length value.now ≡ VALUE_LEN }
-    ensures value { outcome_of pin.now result
-        ≡ presented pin.now value.now (record { sw = Sw.OK; pin = right; verified = verified }) }
-    ensures changes { IfSome result.row (λ row. row ≢ pin.now) }
+    ensures { result ≡ decision_of pin.now
+        (presented pin.now value.now (record { sw = Sw.OK; pin = right; verified = verified })) }
 {
     if is_right(value, &pin.value) {
         changed(pin, Sw::OK, right, verified)
@@ -98,10 +95,8 @@ fn at_enabled(
 ) -> PinDecision
     requires pin { IsPin pin.now }
     requires length { length value.now ≡ VALUE_LEN }
-    ensures value { outcome_of pin.now result
-        ≡ at_enabled pin.now verified value.now
-        (record { sw = Sw.OK; pin = right; verified = verified_then }) }
-    ensures changes { IfSome result.row (λ row. row ≢ pin.now) }
+    ensures { result ≡ decision_of pin.now (at_enabled pin.now verified value.now
+        (record { sw = Sw.OK; pin = right; verified = verified_then })) }
 {
     if pin.left == 0 {
         return unchanged(verified, Sw::PIN_BLOCKED);
@@ -115,8 +110,7 @@ fn at_enabled(
 // How many tries are left.
 fn asked(pin: &PinRow, verified: bool) -> PinDecision
     requires { IsPin pin.now }
-    ensures value { outcome_of pin.now result ≡ asked pin.now verified }
-    ensures same { result.row ≡ None }
+    ensures { result ≡ decision_of pin.now (asked pin.now verified) }
 {
     if pin.enabled {
         unchanged(verified, Sw::tries_left(pin.left))
@@ -143,8 +137,7 @@ fn value_of(bytes: &[u8]) -> [u8; VALUE_LEN]
 /// try (`63CX`), and the PIN isn't verified.
 pub fn verify(pin: &PinRow, verified: bool, body: &[u8]) -> PinDecision
     requires { IsPin pin.now }
-    ensures outcome { outcome_of pin.now result ≡ verified_pin pin.now verified body.now }
-    ensures changes { IfSome result.row (λ row. row ≢ pin.now) }
+    ensures { result ≡ decision_of pin.now (verified_pin pin.now verified body.now) }
 {
     if body.is_empty() {
         return asked(pin, verified);
@@ -159,8 +152,7 @@ pub fn verify(pin: &PinRow, verified: bool, body: &[u8]) -> PinDecision
 /// the old value; where that is right, the PIN has the new one.
 pub fn change(pin: &PinRow, verified: bool, body: &[u8]) -> PinDecision
     requires { IsPin pin.now }
-    ensures outcome { outcome_of pin.now result ≡ changed_pin pin.now verified body.now }
-    ensures changes { IfSome result.row (λ row. row ≢ pin.now) }
+    ensures { result ≡ decision_of pin.now (changed_pin pin.now verified body.now) }
 {
     if body.len() != 2 * VALUE_LEN {
         return unchanged(verified, Sw::WRONG_LENGTH);
@@ -177,8 +169,7 @@ pub fn change(pin: &PinRow, verified: bool, body: &[u8]) -> PinDecision
 /// disables the PIN, brings its tries back to their maximum and leaves whether it is verified.
 pub fn disable(pin: &PinRow, verified: bool, body: &[u8]) -> PinDecision
     requires { IsPin pin.now }
-    ensures outcome { outcome_of pin.now result ≡ disabled_pin pin.now verified body.now }
-    ensures changes { IfSome result.row (λ row. row ≢ pin.now) }
+    ensures { result ≡ decision_of pin.now (disabled_pin pin.now verified body.now) }
 {
     if body.len() != VALUE_LEN {
         return unchanged(verified, Sw::WRONG_LENGTH);
@@ -194,8 +185,7 @@ pub fn disable(pin: &PinRow, verified: bool, body: &[u8]) -> PinDecision
 /// and verifies the PIN, and leaves its tries.
 pub fn enable(pin: &PinRow, verified: bool, body: &[u8]) -> PinDecision
     requires { IsPin pin.now }
-    ensures outcome { outcome_of pin.now result ≡ enabled_pin pin.now verified body.now }
-    ensures changes { IfSome result.row (λ row. row ≢ pin.now) }
+    ensures { result ≡ decision_of pin.now (enabled_pin pin.now verified body.now) }
 {
     if body.len() != VALUE_LEN {
         return unchanged(verified, Sw::WRONG_LENGTH);
@@ -227,8 +217,7 @@ fn with_puk(pin: &PinRow, puk: Puk) -> PinRow
 fn unblocked(pin: &PinRow, verified: bool, puk: Puk, body: &[u8]) -> PinDecision
     requires tries { AreTries puk.max puk.left }
     requires length { length body.now ≡ 2 * VALUE_LEN }
-    ensures value { outcome_of pin.now result ≡ unblocked pin.now verified puk body.now }
-    ensures changes { IfSome result.row (λ row. row ≢ pin.now) }
+    ensures { result ≡ decision_of pin.now (unblocked pin.now verified puk body.now) }
 {
     if puk.left == 0 {
         return unchanged(verified, Sw::PIN_BLOCKED);
@@ -257,8 +246,7 @@ fn unblocked(pin: &PinRow, verified: bool, puk: Puk, body: &[u8]) -> PinDecision
 /// of both back to their maximum; a wrong one costs a try of the PUK (`63CX`).
 pub fn unblock(pin: &PinRow, verified: bool, body: &[u8]) -> PinDecision
     requires { IsPin pin.now }
-    ensures outcome { outcome_of pin.now result ≡ unblocked_pin pin.now verified body.now }
-    ensures changes { IfSome result.row (λ row. row ≢ pin.now) }
+    ensures { result ≡ decision_of pin.now (unblocked_pin pin.now verified body.now) }
 {
     if !body.is_empty() && body.len() != 2 * VALUE_LEN {
         return unchanged(verified, Sw::WRONG_LENGTH);

@@ -1,6 +1,9 @@
-ghost use Rattle.std.specs.Prelude.{◌≡◌, ◌≤◌, Bool, List};
+ghost use Rattle.std.specs.Prelude.{◌≡◌, ◌≤◌, Bool, true, List};
+ghost use Rattle.file_rows.specs.Change.{KeepsPin};
+ghost use Rattle.file_rows.specs.PinRow.{IsPin};
 ghost use Rattle.file_rows.specs.declared.pin.PinRow.{PinRow};
-ghost use Rattle.pin_state.specs.PinCommand.{AllWrongAt, NoneUnblocks, PinCommand, after};
+ghost use Rattle.pin_state.specs.PinCommand.{AllWrongAt, NoneUnblocks, PinCommand, after, outcome};
+ghost use Rattle.pin_state.specs.SamePin.{same_pin};
 
 /// No sequence of PIN commands raises the tries left unless one of them has the right value of the
 /// PIN or of its PUK.
@@ -15,4 +18,18 @@ pub fn blocked_pins_stay_blocked()
     ensures { (commands : List PinCommand) (pin : PinRow) (verified : Bool) → pin.left ≡ 0
         → NoneUnblocks pin commands
         → (after commands pin verified).left ≡ 0 }
+{}
+
+/// A PIN command leaves a PIN of the same number, home and key, in the form of one.
+pub fn pins_stay_pins()
+    ensures form { (pin : PinRow) (verified : Bool) (command : PinCommand) → IsPin pin
+        → IsPin (outcome pin verified command).pin }
+    ensures same { (pin : PinRow) (verified : Bool) (command : PinCommand)
+        → KeepsPin pin (outcome pin verified command).pin }
+{}
+
+/// A PIN's row is set where the PIN changes, and there alone: rows that say the same are equal.
+pub fn same_rows_are_equal()
+    ensures same { (one other : PinRow) → same_pin one other ≡ true → one ≡ other }
+    ensures itself { (pin : PinRow) → same_pin pin pin ≡ true }
 {}

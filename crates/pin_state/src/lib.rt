@@ -10,7 +10,10 @@ mod laws;
 mod value;
 
 pub use decision::{PinDecision, change, disable, enable, unblock, verify};
-pub use laws::{blocked_pins_stay_blocked, tries_rise_by_right_values_alone};
+pub use laws::{
+    blocked_pins_stay_blocked, pins_stay_pins, same_rows_are_equal,
+    tries_rise_by_right_values_alone,
+};
 
 #[cfg(test)]
 mod tests;

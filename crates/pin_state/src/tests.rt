@@ -338,4 +338,6 @@ fn a_changed_pin_has_its_new_value(rt: HostRuntime) {
 fn the_laws_are_callable() {
     tries_rise_by_right_values_alone();
     blocked_pins_stay_blocked();
+    pins_stay_pins();
+    same_rows_are_equal();
 }

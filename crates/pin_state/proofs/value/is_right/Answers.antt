@@ -1,6 +1,5 @@
-use Rattle.std.proofs.Common.{◌≡◌, ◌+◌, ◌-◌, ◌*◌, ◌≤◌, ℕ, length, take, get_or, sym, ◌∙◌, ap, arith, refl, add-one}
+use Rattle.std.proofs.Common.{◌≡◌, ◌+◌, ◌-◌, ℕ, length, take, get_or, sym, ◌∙◌, arith, refl, add-one}
 use Rattle.std.proofs.Math.Seq.{take-length}
-use Rattle.std.specs.Prelude.{◌==◌}
 use Rattle.pin_state.proofs.DistanceLemmas.{distance, distance-bytes_eq, distance-next}
 use Rattle.pin_state.proofs.value.is_right.Goals as goal
 
