@@ -6,7 +6,8 @@ use Rattle.std.proofs.Math.Seq.{take-append-add}
 use Rattle.flash_pages.specs.declared.bank.Bank.{Bank}
 use Rattle.flash_pages.specs.Bank.{start_of, end_of, bank_bytes}
 use Rattle.flash_pages.specs.Bytes.{part, patch, DiffersIn}
-use Rattle.flash_pages.specs.Rows.{behind_gate, row_of, rows_of, IsClosed, HasRows, IsTornRow, EndsAt, HasRowsOrOneMore}
+use Rattle.flash_pages.specs.Append.{IsTornRow, EndsAt, HasRowsOrOneMore}
+use Rattle.flash_pages.specs.Rows.{behind_gate, row_of, rows_of, IsClosed, HasRows}
 use Rattle.flash_pages.proofs.Patches.{take-patch-front, drop-patch-front, length-patch, part-DiffersIn, part-patch}
 use Rattle.flash_pages.proofs.RowLemmas.{length-behind_gate, length-row_of}
 

@@ -1,8 +1,8 @@
 -- What contracts see of a flash in memory.
-use Rattle.std.specs.Prelude.{ℕ, List}
+use Rattle.std.specs.Prelude.{◌≡◌, ◌↔◌, ℕ, Bool, false, IsTrue, List}
 use Rattle.flash_pages.specs.declared.memory.MemoryFlash.{MemoryFlash}
-use Rattle.flash_pages.specs.Flash.{FlashState}
-use Rattle.flash_pages.specs.Past.{memory_state}
+use Rattle.flash_pages.specs.Flash.{FlashState, IsSettled}
+use Rattle.flash_pages.specs.Past.{last_ok, memory_state}
 use Rattle.flash_pages.specs.Plan.{Plan}
 
 abbrev pub state_of : MemoryFlash → FlashState
@@ -22,3 +22,13 @@ torn_of flash = flash.history.torn
 -- for how many calls there is room
 abbrev pub room_of : MemoryFlash → ℕ
 room_of flash = flash.history.past.room
+
+-- the moment of the last Ok of a program, an erase or a restart, or at which the flash was made
+abbrev pub last_ok_of : MemoryFlash → ℕ
+last_ok_of flash = last_ok flash.history.past.calls
+
+-- A restart may leave just the images since this moment, as long as they are known, and from then on just what reads
+-- return.
+pub record LeavesImagesSince (t : ℕ) (flash : FlashState) : Type 0 where
+  pub in_room : IsTrue flash.images_known → (content : List ℕ) → flash.may_leave content ↔ flash.images t content
+  pub past_room : flash.images_known ≡ false → IsSettled flash

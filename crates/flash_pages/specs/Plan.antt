@@ -18,6 +18,18 @@ pub record Plan : Type 0 where
   -- power was cut, and there was no restart since
   pub is_off : Bool
 
+-- before the first call
+abbrev pub planned : List ℕ → List ℕ → Option ℕ → Plan
+planned fail fail_reads cut = record {
+  fail = fail;
+  fail_reads = fail_reads;
+  cut = cut;
+  changes = 0;
+  reads = 0;
+  faults = 0;
+  is_off = false;
+}
+
 abbrev pub is_named : Option ℕ → ℕ → Bool
 is_named None call = false
 is_named (Some cut) call = cut == call

@@ -1,10 +1,9 @@
 -- Rows: a gate, four bytes of length, and a body. A row is open where its gate is 00, and the rows of a bank end at
 -- the first gate that isn't.
-use Rattle.std.specs.Prelude.{◌≡◌, ◌≢◌, ◌⊎◌, ℕ, ◌+◌, ◌^◌, ◌<◌, ◌≤◌, ⊤, List, [], ◌∷◌, ◌++◌, length, drop}
+use Rattle.std.specs.Prelude.{◌≡◌, ◌≢◌, ◌↔◌, ℕ, ◌+◌, ◌^◌, ◌<◌, ◌≤◌, ⊤, List, [], ◌∷◌, ◌++◌, length, drop}
 use Rattle.std.specs.Int.{to_be_bytes, w32}
 use Rattle.flash_pages.specs.declared.row.RowAt.{RowAt}
 use Rattle.flash_pages.specs.declared.row.RowAt.TheVariants.{Open, End, Overrun}
-use Rattle.flash_pages.specs.Bytes.{patch, DiffersIn}
 
 -- what stands behind the gate
 abbrev pub behind_gate : List ℕ → List ℕ
@@ -19,7 +18,7 @@ abbrev pub rows_of : List (List ℕ) → List ℕ
 rows_of [] = []
 rows_of (body ∷ bodies) = row_of body ++ rows_of bodies
 
--- no open row stands at the front
+-- no open row stands first
 abbrev pub IsClosed : List ℕ → Type 0
 IsClosed [] = ⊤
 IsClosed (gate ∷ rest) = gate ≢ 0
@@ -32,11 +31,11 @@ HasRows bytes bodies = (rest : List ℕ) × (bytes ≡ rows_of bodies ++ rest) �
 abbrev pub HasOneListOfRows : Type 0
 HasOneListOfRows = (bytes : List ℕ) (first second : List (List ℕ)) → length bytes < 2 ^ 32 → HasRows bytes first → HasRows bytes second → first ≡ second
 
--- an open row with this body stands at the front
+-- an open row with this body stands first
 abbrev pub BeginsWithRow : List ℕ → List ℕ → Type 0
 BeginsWithRow bytes body = (rest : List ℕ) × (bytes ≡ row_of body ++ rest)
 
--- what stands at the front of what is left of a bank from place `at` on
+-- what stands first in what is left of a bank from place `at` on
 abbrev pub RowIs : ℕ → List ℕ → RowAt → Type 0
 RowIs at bytes End = IsClosed bytes
 RowIs at bytes (Open place len next) =
@@ -48,20 +47,3 @@ abbrev pub LiesBefore : ℕ → ℕ → RowAt → Type 0
 LiesBefore at end (Open body len next) = (body ≡ at + 5) × (next ≡ body + len) × (next ≤ end)
 LiesBefore at end End = ⊤
 LiesBefore at end Overrun = ⊤
-
--- What a cut may leave while a row is appended: length and body torn behind a gate as it was, or both in place
--- behind any gate.
-abbrev pub IsTornRow : ℕ → List ℕ → List ℕ → List ℕ → Type 0
-IsTornRow at body before image =
-    DiffersIn (at + 1) (4 + length body) before image ⊎ DiffersIn at 1 (patch before (at + 1) (behind_gate body)) image
-
--- The open rows of a bank end at this place of it, and no open row stands behind the bytes that a row with a body of
--- this length takes there.
-pub record EndsAt (bytes : List ℕ) (bodies : List (List ℕ)) (place len : ℕ) : Type 0 where
-  pub rows : HasRows bytes bodies
-  pub end : place ≡ length (rows_of bodies)
-  pub behind : IsClosed (drop (place + 5 + len) bytes)
-
--- the open rows are those of before, or those and this one
-abbrev pub HasRowsOrOneMore : List ℕ → List (List ℕ) → List ℕ → Type 0
-HasRowsOrOneMore bytes bodies body = HasRows bytes bodies ⊎ HasRows bytes (bodies ++ body ∷ [])

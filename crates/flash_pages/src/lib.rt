@@ -1,7 +1,8 @@
-//! A flash as a store sees it: what reads give, and what a power cut at any moment may leave. On it rows that count
+//! A flash as a store sees it: what reads return, and what a power cut at any moment may leave. On it rows that count
 //! only once their gate byte reads 00.
 #![tactic(auto)]
 
+mod back;
 mod bank;
 mod fills;
 mod flash;
@@ -11,6 +12,7 @@ mod plan;
 mod row;
 mod switch;
 
+pub use back::Back;
 pub use bank::Bank;
 pub use flash::{BLOCK_LEN, BLOCKS, FLASH_LEN, Flash, PIECE_LEN};
 pub use memory::MemoryFlash;

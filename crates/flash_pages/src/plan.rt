@@ -1,6 +1,6 @@
-ghost use Rattle.std.specs.Prelude.{◌≡◌, false};
+ghost use Rattle.std.specs.Prelude.{◌≡◌};
 ghost use Rattle.port_io.specs.Faults.{NeverFalls};
-ghost use Rattle.flash_pages.specs.Plan.{is_named, outcome_of, after_change, is_read, after_read, after_restart};
+ghost use Rattle.flash_pages.specs.Plan.{planned, is_named, outcome_of, after_change, is_read, after_read, after_restart};
 
 use std::marker::Model;
 
@@ -61,15 +61,7 @@ impl Model for Power {
 
 impl Power {
     pub(crate) fn new(fail: Vec<u64>, fail_reads: Vec<u64>, cut: Option<u64>) -> Self
-        ensures { result ≡ record {
-          fail = fail.items;
-          fail_reads = fail_reads.items;
-          cut = cut;
-          changes = 0;
-          reads = 0;
-          faults = 0;
-          is_off = false;
-        } }
+        ensures { result ≡ planned fail.items fail_reads.items cut }
     {
         Power {
             fail,
@@ -88,7 +80,7 @@ impl Power {
         self.faults
     }
 
-    /// Counts a program or an erase, with its fault if it is to fail, and tells what becomes of it.
+    /// Counts a program or an erase, with its fault if it is to fail, and returns what becomes of it.
     pub(crate) fn begin_change(&mut self) -> Outcome
         ensures outcome { result ≡ outcome_of self.old }
         ensures after { self.new ≡ after_change self.old }
@@ -110,7 +102,7 @@ impl Power {
         outcome
     }
 
-    /// Counts a read, with its fault if it is to fail, and tells whether it gives the bytes.
+    /// Counts a read, with its fault if it is to fail, and returns whether it works.
     pub(crate) fn begin_read(&mut self) -> bool
         ensures works { result ≡ is_read self.old }
         ensures after { self.new ≡ after_read self.old }

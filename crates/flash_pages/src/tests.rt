@@ -3,10 +3,10 @@ ghost use Rattle.std.specs.Prelude.{◌≡◌, ◌^◌, ◌<◌, length, IfSome,
 ghost use Rattle.std.specs.Bool.{OnTrue};
 ghost use Rattle.flash_pages.specs.Bank.{LiesInFlash};
 ghost use Rattle.flash_pages.specs.Bytes.{blank, part};
-ghost use Rattle.flash_pages.specs.Flash.{IsRange};
+ghost use Rattle.flash_pages.specs.Flash.{card_blocks, IsRange};
 
 use super::*;
-use crate::row::copy_front;
+use crate::row::copy_prefix;
 use port_io::Failed;
 use std::alloc::{AllocError, Global};
 use std::test::Fail;
@@ -31,7 +31,7 @@ impl Body for Text<'_> {
     }
 
     fn fill(&self, at: u32, out: &mut [u8]) -> usize {
-        copy_front(&self.bytes[at as usize..], out)
+        copy_prefix(&self.bytes[at as usize..], out)
     }
 }
 
@@ -43,7 +43,7 @@ fn all_erased(bytes: &[u8]) -> bool
 
 /// Whether a range reads FF.
 fn is_blank<F: Flash>(flash: &mut F, at: u32, buf: &mut [u8]) -> bool
-    requires { IsRange at (length buf.old) }
+    requires { IsRange card_blocks at (length buf.old) }
     ensures { OnTrue result (IfSome (F.state flash.new).bytes
         (λ bytes. part at (length buf.old) bytes ≡ blank (length buf.old))) }
 {
@@ -87,7 +87,7 @@ fn try_append<F: Flash>(
 
 /// The lengths of the open rows of a bank, up to the first read that fails.
 fn row_lengths<F: Flash>(alloc: Global, flash: &mut F, bank: Bank) -> Result<Vec<u32>, AllocError>
-    requires { LiesInFlash bank }
+    requires { LiesInFlash card_blocks bank }
 {
     let mut lengths = Vec::new(alloc);
     let mut at = BLOCK_LEN * bank.first;

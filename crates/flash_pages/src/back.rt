@@ -1,0 +1,6 @@
+/// What a refused call was handed, and why it was refused.
+#[derive(Debug, Drop)]
+pub struct Back<T, E> {
+    pub value: T,
+    pub fault: E,
+}
