@@ -11,7 +11,7 @@ use Rattle.flash_pages.specs.Rows.{behind_gate, row_of, rows_of, IsClosed, HasRo
 use Rattle.flash_pages.proofs.Patches.{take-patch-front, drop-patch-front, length-patch, part-DiffersIn, part-patch}
 use Rattle.flash_pages.proofs.RowLemmas.{length-behind_gate, length-row_of}
 
-rows_of-push : (bodies : List (List ℕ)) (body rest : List ℕ) → rows_of (bodies ++ body ∷ []) ++ rest ≡ rows_of bodies ++ (row_of body ++ rest)
+pub rows_of-push : (bodies : List (List ℕ)) (body rest : List ℕ) → rows_of (bodies ++ body ∷ []) ++ rest ≡ rows_of bodies ++ (row_of body ++ rest)
 rows_of-push [] body rest = ap (λ (l : List ℕ). l ++ rest) (append-nil (row_of body))
 rows_of-push (b ∷ bodies) body rest =
     append_assoc (row_of b) (rows_of (bodies ++ body ∷ [])) rest ∙ ap (λ (l : List ℕ). row_of b ++ l) (rows_of-push bodies body rest)
@@ -94,6 +94,12 @@ module _ (bytes image body : List ℕ) (bodies : List (List ℕ)) (place : ℕ) 
         ends.behind,
       )
 
+pub length-bank_bytes : (bank : Bank) (image : List ℕ) → end_of bank ≤ length image
+    → length (bank_bytes bank image) ≡ 4096 * bank.blocks
+length-bank_bytes bank image inside =
+    length-take-le (4096 * bank.blocks) (drop (start_of bank) image)
+    (omega (arith, length-drop (start_of bank) image))
+
 -- the same of a bank in a flash
 module _ (bank : Bank) (at : ℕ) (body before image : List ℕ) (from_start : start_of bank ≤ at) (fits : at + 5 + length body ≤ end_of bank) (inside : end_of bank ≤ length before) where
   abbrev place : ℕ
@@ -118,10 +124,7 @@ module _ (bank : Bank) (at : ℕ) (body before image : List ℕ) (from_start : s
       inr (subst (λ (l : List ℕ). DiffersIn place 1 l (bank_bytes bank image)) moved in_part)
 
   bank_length : length (bank_bytes bank before) ≡ size
-  bank_length = length-part (start_of bank) size before (omega arith)
-    where
-      length-part : (s n : ℕ) (l : List ℕ) → s + n ≤ length l → length (part s n l) ≡ n
-      length-part s n l le = length-take-le n (drop s l) (omega (arith, length-drop s l))
+  bank_length = length-bank_bytes bank before inside
 
   pub torn_in_bank : (bodies : List (List ℕ)) → EndsAt (bank_bytes bank before) bodies place (length body) → IsTornRow at body before image → HasRowsOrOneMore (bank_bytes bank image) bodies body
   torn_in_bank bodies ends torn_row =

@@ -1,5 +1,5 @@
 -- Patches of a list of bytes, and lists that differ in one range alone.
-use Rattle.std.proofs.Common.{◌≡◌, ℕ, ◌+◌, ◌-◌, ◌<◌, ◌≤◌, get_or, min, List, [], ◌∷◌, ◌++◌, length, take, drop, replicate, refl, sym, ◌∙◌, ap, arith, append_assoc, append-nil, length-append, length-drop, take-append-drop}
+use Rattle.std.proofs.Common.{◌≡◌, ◌⊎◌, inl, inr, ℕ, ◌+◌, ◌-◌, ◌<◌, ◌≤◌, get_or, min, List, [], ◌∷◌, ◌++◌, length, take, drop, replicate, refl, sym, ◌∙◌, ap, arith, append_assoc, append-nil, length-append, length-drop, take-append-drop}
 use Rattle.std.proofs.lemmas.List.{take_at, drop_at, take-take, drop-drop, drop-take, take-replicate, drop-replicate, length-take, length-take-le, length-replicate, get_or-replicate, ext_get_or}
 use Rattle.flash_pages.specs.Bytes.{blank, part, patch, DiffersIn}
 
@@ -83,6 +83,15 @@ part_before at n m a b le same = sym (drop-take at n a) ∙ ap (drop at) shorter
   where
     shorter : take (at + n) a ≡ take (at + n) b
     shorter = sym (take-take (at + n) m a le) ∙ ap (take (at + n)) same ∙ take-take (at + n) m b le
+
+-- a part outside the range in which two lists differ
+pub part_outside : (at n : ℕ) (old new : List ℕ) → DiffersIn at n old new → (place len : ℕ)
+    → (place + len ≤ at) ⊎ (at + n ≤ place) → part place len new ≡ part place len old
+part_outside at n old new differs place len (inl before) = part_before place len at new old before differs.before
+part_outside at n old new differs place len (inr behind) =
+    let to : (at + n) + (place - (at + n)) ≡ place = omega arith in
+    let further = λ (l : List ℕ). drop-drop (place - (at + n)) (at + n) l ∙ ap (λ (k : ℕ). drop k l) to in
+    ap (take len) (sym (further new) ∙ ap (drop (place - (at + n))) differs.after ∙ further old)
 
 -- a part of bytes of FF
 pub part-blank : (at n k m : ℕ) (b : List ℕ) → k + m ≤ n → part at n b ≡ blank n → part (at + k) m b ≡ blank m

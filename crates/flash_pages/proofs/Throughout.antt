@@ -1,5 +1,6 @@
 -- For the stores above: what each content of the flash has, carried over each call.
-use Rattle.std.proofs.Common.{◌≡◌, inl, inr, ⊎_elim, ℕ, List, length, Some, IsSome, IfSome, Result, IsTrue, is_ok, sym, ◌∙◌, subst}
+use Rattle.std.proofs.Common.{◌≡◌, ◌↔◌, Option, None, refl, inl, inr, ⊎_elim, ℕ, List, length, Some, IsSome, IfSome, Result, IsTrue, is_ok, sym, ◌∙◌, subst}
+use Rattle.std.proofs.lemmas.Bool.{false≢true}
 use Rattle.flash_pages.specs.Bytes.{DiffersIn}
 use Rattle.flash_pages.specs.Flash.{FlashState, IsFlash, IsSettled, MayLeaveOnly, LeavesOnly, AddsOnly, GoesOn, Reads, Changes, Restarts, Touches, Throughout}
 use Rattle.flash_pages.proofs.Touched.{at_some, from_each, known, is_known, known_before, known_after, same_some, GoesOn-refl, GoesOn-trans, LeavesOnly-trans, Touches-from_changes}
@@ -25,12 +26,19 @@ IsSettled-read a b reads settled some content left =
     let before : IsSome a.bytes = reads.time.bytes_known.1 some in
     reads.bytes ∙ settled before content ((reads.may_leave before content).0 left)
 
--- a settled flash reads the same after a restart, whatever that answers
+-- a settled flash returns the same after a restart, whatever that answers
 pub restart_settled : {E : Type 0} (a b : FlashState) (result : Result Unit E) → Restarts a b result → IsSettled a
-    → (content : List ℕ) → b.bytes ≡ Some content → a.bytes ≡ Some content
-restart_settled a b result restarts settled content is =
-    let before : IsSome a.bytes = restarts.time.bytes_known.1 (is_known b.bytes content is) in
-    settled before content (at_some b.bytes a.may_leave content is restarts.bytes)
+    → b.bytes ≡ a.bytes
+restart_settled a b result restarts settled =
+    same a.bytes b.bytes restarts.time.bytes_known (λ some content is. settled some content
+    (at_some b.bytes a.may_leave content is restarts.bytes))
+  where
+    same : (o p : Option (List ℕ)) → IsSome o ↔ IsSome p
+        → (IsSome o → (content : List ℕ) → p ≡ Some content → o ≡ Some content) → p ≡ o
+    same None None both each = refl
+    same (Some x) None both each = absurd (false≢true (both.0 refl))
+    same None (Some y) both each = absurd (false≢true (both.1 refl))
+    same (Some x) (Some y) both each = sym (each refl y refl)
 
 -- before the first call
 pub Throughout-begin : (blocks : ℕ) (s : FlashState) (P : List ℕ → Type 0) → IsFlash blocks s → MayLeaveOnly s P

@@ -7,7 +7,7 @@ use Rattle.flash_pages.specs.Rows.{row_of, rows_of, IsClosed, HasRows}
 use Rattle.flash_pages.proofs.RowLemmas.{length-row_of}
 
 -- two rows at the same front have the same body
-same_row : (x y more other : List ℕ) → length x < 2 ^ 32 → length y < 2 ^ 32 → row_of x ++ more ≡ row_of y ++ other → (x ≡ y) × (more ≡ other)
+pub same_row : (x y more other : List ℕ) → length x < 2 ^ 32 → length y < 2 ^ 32 → row_of x ++ more ≡ row_of y ++ other → (x ≡ y) × (more ≡ other)
 same_row x y more other small_x small_y is =
     let spelled_x = to_be_bytes w32 (length x) in
     let spelled_y = to_be_bytes w32 (length y) in
@@ -21,7 +21,7 @@ same_row x y more other small_x small_y is =
     )
 
 -- no row is open at a closed front
-not_closed : (body more rest : List ℕ) → rest ≡ row_of body ++ more → IsClosed rest → ⊥
+pub not_closed : (body more rest : List ℕ) → rest ≡ row_of body ++ more → IsClosed rest → ⊥
 not_closed body more rest is closed = let open_gate : IsClosed (row_of body ++ more) = subst IsClosed is closed in open_gate refl
 
 pub unique : (bytes : List ℕ) (first second : List (List ℕ)) → length bytes < 2 ^ 32 → HasRows bytes first → HasRows bytes second → first ≡ second

@@ -1,8 +1,8 @@
 -- A row appended to a bank.
-use Rattle.std.specs.Prelude.{◌≡◌, ◌⊎◌, ℕ, ◌+◌, List, [], ◌∷◌, ◌++◌, length, drop, Some, IfSome, Result, OnOk}
+use Rattle.std.specs.Prelude.{◌≡◌, ◌⊎◌, ℕ, ◌+◌, ◌-◌, List, [], ◌∷◌, ◌++◌, length, drop, Some, IfSome, Result, OnOk}
 use Rattle.flash_pages.specs.declared.bank.Bank.{Bank}
 use Rattle.flash_pages.specs.Bank.{bank_bytes}
-use Rattle.flash_pages.specs.Bytes.{patch, DiffersIn}
+use Rattle.flash_pages.specs.Bytes.{blank, patch, DiffersIn}
 use Rattle.flash_pages.specs.Flash.{FlashState, IsSettled, LeavesOnly, AddsOnly, Touches}
 use Rattle.flash_pages.specs.Rows.{behind_gate, row_of, rows_of, IsClosed, HasRows}
 
@@ -43,3 +43,8 @@ pub record KeepsRows {T E : Type 0} (bank : Bank) (bodies : List (List ℕ)) (bo
   pub may_leave : AddsOnly old new (λ content. HasRowsOrOneMore (bank_bytes bank content) bodies body)
   pub images : LeavesOnly old new (λ image. HasRowsOrOneMore (bank_bytes bank image) bodies body)
   pub done : OnOk result (IfSome new.bytes (λ bytes. HasRows (bank_bytes bank bytes) (bodies ++ body ∷ [])))
+
+-- the open rows of a bank end at this place of it, and all bytes from there on are FF
+pub record EndsBlank (bytes : List ℕ) (bodies : List (List ℕ)) (place : ℕ) : Type 0 where
+  pub end : place ≡ length (rows_of bodies)
+  pub rows : bytes ≡ rows_of bodies ++ blank (length bytes - place)

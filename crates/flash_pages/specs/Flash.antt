@@ -4,6 +4,7 @@
 -- image that a power cut at that moment may leave.
 use Rattle.std.specs.Prelude.{◌≡◌, ◌⊎◌, ◌↔◌, ℕ, ◌+◌, ◌*◌, ◌%◌, ◌<◌, ◌≤◌, Bool, IsTrue, List, length, Option, Some, IsSome, IfSome, Result, is_ok}
 use Rattle.port_io.specs.Faults.{NeverFalls}
+use Rattle.port_io.specs.declared.source.Failed.{Failed}
 use Rattle.flash_pages.specs.Bytes.{patch, DiffersIn}
 
 -- how many bytes a block has
@@ -133,6 +134,10 @@ pub record Restarts {E : Type 0} (old new : FlashState) (result : Result Unit E)
   pub images : HasImages old new old.may_leave
   pub programmed : new.programmed ≡ old.programmed
   pub erased : new.erased ≡ old.erased
+
+-- a settled flash returns the same after a restart, whatever that answers
+abbrev pub SettledStays : FlashState → FlashState → Type 0
+SettledStays old new = (result : Result Unit Failed) → Restarts old new result → IsSettled old → new.bytes ≡ old.bytes
 
 -- Several calls that touch this range alone: at each moment since old, and whatever a restart leaves that it might not
 -- have left before, all outside the range is as it was.

@@ -1,6 +1,6 @@
 -- Rows: a gate, four bytes of length, and a body. A row is open where its gate is 00, and the rows of a bank end at
 -- the first gate that isn't.
-use Rattle.std.specs.Prelude.{◌≡◌, ◌≢◌, ◌↔◌, ℕ, ◌+◌, ◌^◌, ◌<◌, ◌≤◌, ⊤, List, [], ◌∷◌, ◌++◌, length, drop}
+use Rattle.std.specs.Prelude.{◌≡◌, ◌≢◌, ◌↔◌, ℕ, ◌+◌, ◌^◌, ◌<◌, ◌≤◌, ⊤, List, [], ◌∷◌, ◌++◌, length, take, drop}
 use Rattle.std.specs.Int.{to_be_bytes, w32}
 use Rattle.flash_pages.specs.declared.row.RowAt.{RowAt}
 use Rattle.flash_pages.specs.declared.row.RowAt.TheVariants.{Open, End, Overrun}
@@ -47,3 +47,25 @@ abbrev pub LiesBefore : ℕ → ℕ → RowAt → Type 0
 LiesBefore at end (Open body len next) = (body ≡ at + 5) × (next ≡ body + len) × (next ≤ end)
 LiesBefore at end End = ⊤
 LiesBefore at end Overrun = ⊤
+
+-- the rows up to this place are open and have these bodies
+pub record RowsUpTo (bytes : List ℕ) (bodies : List (List ℕ)) (place : ℕ) : Type 0 where
+  pub end : place ≡ length (rows_of bodies)
+  pub rows : take place bytes ≡ rows_of bodies
+
+-- what is read one row after another from place `at` on: open rows with these bodies, and then an end
+abbrev pub ReadsAs : ℕ → List ℕ → List (List ℕ) → Type 0
+ReadsAs at bytes [] = RowIs at bytes End
+ReadsAs at bytes (body ∷ bodies) =
+    RowIs at bytes (Open (at + 5) (length body) (at + 5 + length body))
+    × (take (length body) (drop 5 bytes) ≡ body)
+    × ReadsAs (at + 5 + length body) (drop (5 + length body) bytes) bodies
+
+-- rows read one after another up to an end are the open rows, from whatever place they are counted
+abbrev pub RowsAreThoseRead : Type 0
+RowsAreThoseRead = (at : ℕ) (bytes : List ℕ) (bodies : List (List ℕ)) → HasRows bytes bodies ↔ ReadsAs at bytes bodies
+
+-- where an open row is met that doesn't lie in the bank, the bank has no list of open rows
+abbrev pub OverrunHasNoRows : Type 0
+OverrunHasNoRows = (at place : ℕ) (bytes : List ℕ) (before bodies : List (List ℕ)) → length bytes < 2 ^ 32
+    → RowsUpTo bytes before place → RowIs at (drop place bytes) Overrun → HasRows bytes bodies → ⊥

@@ -7,6 +7,7 @@ mod bank;
 mod fills;
 mod flash;
 mod history;
+mod laws;
 mod memory;
 mod plan;
 mod row;
@@ -15,9 +16,13 @@ mod switch;
 pub use back::Back;
 pub use bank::Bank;
 pub use flash::{BLOCK_LEN, BLOCKS, FLASH_LEN, Flash, PIECE_LEN};
+pub use laws::{
+    memory_leaves_images, next_byte_switches, parts_outside_stay, rows_are_those_read,
+    rows_are_unique, settled_stays,
+};
 pub use memory::MemoryFlash;
 pub use plan::FlashPlan;
-pub use row::{Body, RowAt, append_row, read_row, rows_are_unique};
+pub use row::{Body, RowAt, append_row, read_row};
 pub use switch::{Switch, read_switch};
 
 #[cfg(test)]

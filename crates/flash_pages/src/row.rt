@@ -4,7 +4,7 @@ ghost use Rattle.flash_pages.specs.Bank.{start_of, end_of, bank_bytes, LiesInFla
 ghost use Rattle.flash_pages.specs.Bytes.{blank, part, patch};
 ghost use Rattle.flash_pages.specs.Flash.{block_len, card_blocks, IsRange, Reads, Touches};
 ghost use Rattle.flash_pages.specs.Append.{EndsAt, AppendsRow, LeavesTornRow, KeepsRows};
-ghost use Rattle.flash_pages.specs.Rows.{behind_gate, HasOneListOfRows, RowIs, LiesBefore};
+ghost use Rattle.flash_pages.specs.Rows.{behind_gate, RowIs, LiesBefore};
 
 use crate::{BLOCK_LEN, Bank, Flash, PIECE_LEN};
 use port_io::Failed;
@@ -41,11 +41,6 @@ pub enum RowAt {
     /// An open row that doesn't lie in the bank.
     Overrun,
 }
-
-/// That a bank has no two lists of open rows. There is nothing to run.
-pub fn rows_are_unique()
-    ensures { HasOneListOfRows }
-{}
 
 /// Reads what stands at a place in a bank.
 pub fn read_row<F: Flash>(flash: &mut F, bank: Bank, at: u32) -> Result<RowAt, Failed>
