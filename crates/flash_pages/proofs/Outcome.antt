@@ -8,7 +8,7 @@ use Rattle.flash_pages.specs.Bank.{start_of, end_of, bank_bytes}
 use Rattle.flash_pages.specs.Bytes.{part, patch, DiffersIn}
 use Rattle.flash_pages.specs.Append.{IsTornRow, EndsAt, HasRowsOrOneMore}
 use Rattle.flash_pages.specs.Rows.{behind_gate, row_of, rows_of, IsClosed, HasRows}
-use Rattle.flash_pages.proofs.Patches.{take-patch-front, drop-patch-front, length-patch, part-DiffersIn, part-patch}
+use Rattle.flash_pages.proofs.Patches.{DiffersIn-trans, DiffersIn-wider, DiffersIn-patch, take-patch-front, drop-patch-front, length-patch, part-DiffersIn, part-patch}
 use Rattle.flash_pages.proofs.RowLemmas.{length-behind_gate, length-row_of}
 
 pub rows_of-push : (bodies : List (List ℕ)) (body rest : List ℕ) → rows_of (bodies ++ body ∷ []) ++ rest ≡ rows_of bodies ++ (row_of body ++ rest)
@@ -93,6 +93,20 @@ module _ (bytes image body : List ℕ) (bodies : List (List ℕ)) (place : ℕ) 
             ∙ append_assoc rows (row_of body) behind ∙ sym (rows_of-push bodies body behind),
         ends.behind,
       )
+
+-- a torn row differs from what was there in the row's bytes alone
+pub torn_differs : (at : ℕ) (body before image : List ℕ) → at + 5 + length body ≤ length before
+    → IsTornRow at body before image → DiffersIn at (5 + length body) before image
+torn_differs at body before image fits (inl differs) =
+    DiffersIn-wider (at + 1) (4 + length body) at (5 + length body) before image (omega arith) (omega arith) differs
+torn_differs at body before image fits (inr differs) =
+    let behind = behind_gate body in
+    let n = length-behind_gate body in
+    let patched = patch before (at + 1) behind in
+    DiffersIn-trans at (5 + length body) before patched image
+    (DiffersIn-wider (at + 1) (length behind) at (5 + length body) before patched (omega arith) (omega (arith, n))
+    (DiffersIn-patch before (at + 1) behind (omega (arith, n))))
+    (DiffersIn-wider at 1 at (5 + length body) patched image (omega arith) (omega arith) differs)
 
 pub length-bank_bytes : (bank : Bank) (image : List ℕ) → end_of bank ≤ length image
     → length (bank_bytes bank image) ≡ 4096 * bank.blocks

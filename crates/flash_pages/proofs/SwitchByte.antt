@@ -1,12 +1,13 @@
 -- What a byte at the next place of a switch row makes of it.
-use Rattle.std.proofs.Common.{◌≡◌, ◌⊎◌, ℕ, ◌+◌, ◌-◌, ◌%◌, ◌<◌, ◌≤◌, ◌==◌, Bool, true, false, cond, get_or, List, [], ◌∷◌, ◌++◌, length, take, drop, Option, Some, None, inl, inr, zero, suc, refl, sym, ◌∙◌, ap, subst, arith, take-append-drop}
+use Rattle.std.proofs.Common.{◌≡◌, ◌⊎◌, ℕ, ◌+◌, ◌-◌, ◌*◌, ◌%◌, ◌<◌, ◌≤◌, ◌==◌, Bool, true, false, cond, get_or, List, [], ◌∷◌, ◌++◌, length, take, drop, Option, Some, None, inl, inr, zero, suc, refl, sym, ◌∙◌, ap, subst, arith, length-drop, take-append-drop}
 use Rattle.std.specs.List.{count_by}
 use Rattle.std.specs.Prelude.{slice_index}
-use Rattle.std.proofs.lemmas.List.{get_or-take, get_or-drop}
+use Rattle.std.proofs.lemmas.List.{get_or-take, get_or-drop, length-take-le}
 use Rattle.std.proofs.lemmas.List.Sums.{sum_by-append, sum_by-drop_more}
 use Rattle.std.proofs.lemmas.Bool.{cases_lt, ne_eqb}
-use Rattle.flash_pages.specs.Bytes.{DiffersIn}
+use Rattle.flash_pages.specs.Bytes.{part, patch, DiffersIn}
 use Rattle.flash_pages.specs.Switch.{live_of, IsUsedTo, IsNextByte, SwitchesTo}
+use Rattle.flash_pages.proofs.Patches.{part-DiffersIn, drop-patch-front}
 
 abbrev opened : ℕ → ℕ
 opened byte = cond (byte == 0) 1 0
@@ -117,3 +118,24 @@ one_next_byte row (Some a) None p q =
 one_next_byte row None (Some b) p q =
     absurd (omega (arith, q.0, one_used row (length row) b (omega arith) (omega (arith, q.0)) p q.1))
 one_next_byte row None None p q = refl
+
+-- the switch row in a block of the flash, where anything comes to stand at its next byte
+pub switches_in : (block next : ℕ) (before image : List ℕ) → IsNextByte (part (4096 * block) 4096 before) (Some next)
+    → 4096 * block + 4096 ≤ length before → DiffersIn (4096 * block + next) 1 before image
+    → SwitchesTo (part (4096 * block) 4096 before) (part (4096 * block) 4096 image) next
+switches_in block next before image is_next fits differs =
+    let row = part (4096 * block) 4096 before in
+    let size : length row ≡ 4096 =
+    length-take-le 4096 (drop (4096 * block) before) (omega (arith, length-drop (4096 * block) before)) in
+    switches row (part (4096 * block) 4096 image) next is_next
+    (part-DiffersIn (4096 * block) 4096 next 1 (omega (arith, is_next.0, size)) before image differs)
+
+-- after a program of 00 the byte reads so
+pub opened_in : (block next : ℕ) (before : List ℕ) → next < 4096 → 4096 * block + 4096 ≤ length before
+    → slice_index (part (4096 * block) 4096 (patch before (4096 * block + next) (0 ∷ []))) next ≡ 0
+opened_in block next before within fits =
+    let image = patch before (4096 * block + next) (0 ∷ []) in
+    let here : (4096 * block + next) + 0 ≡ 4096 * block + next = omega arith in
+    get_or-take 4096 (drop (4096 * block) image) next 0 within ∙ get_or-drop (4096 * block) image next 0
+    ∙ sym (ap (λ (k : ℕ). get_or image k 0) here) ∙ sym (get_or-drop (4096 * block + next) image 0 0)
+    ∙ ap (λ (l : List ℕ). get_or l 0 0) (drop-patch-front before (4096 * block + next) (0 ∷ []) (omega arith))

@@ -1,6 +1,9 @@
 -- For the stores above: what each content of the flash has, carried over each call.
-use Rattle.std.proofs.Common.{◌≡◌, ◌↔◌, Option, None, refl, inl, inr, ⊎_elim, ℕ, List, length, Some, IsSome, IfSome, Result, IsTrue, is_ok, sym, ◌∙◌, subst}
+use Rattle.std.proofs.Common.{◌≡◌, ◌↔◌, Option, None, refl, inl, inr, ⊎_elim, ℕ, ◌+◌, List, length, Some, IsSome, IfSome, Result, IsTrue, is_ok, sym, ◌∙◌, subst}
 use Rattle.std.proofs.lemmas.Bool.{false≢true}
+use Rattle.flash_pages.specs.declared.bank.Bank.{Bank}
+use Rattle.flash_pages.specs.Append.{IsTornRow, HasRowsOrOneMore, LeavesTornRow, KeepsRows}
+use Rattle.flash_pages.specs.Bank.{bank_bytes}
 use Rattle.flash_pages.specs.Bytes.{DiffersIn}
 use Rattle.flash_pages.specs.Flash.{FlashState, IsFlash, IsSettled, MayLeaveOnly, LeavesOnly, AddsOnly, GoesOn, Reads, Changes, Restarts, Touches, Throughout}
 use Rattle.flash_pages.proofs.Touched.{at_some, from_each, known, is_known, known_before, known_after, same_some, GoesOn-refl, GoesOn-trans, LeavesOnly-trans, Touches-from_changes}
@@ -131,3 +134,37 @@ module _ (blocks : ℕ) (a b c : FlashState) (P : List ℕ → Type 0) (was : Is
             let then : IsSome b.bytes = was.bytes_known (restarts.time.images_known says) in
             before.may_leave then image ((restarts.images says image).0 left);
       })
+
+  -- over an append, where P outlives a torn row
+  pub Throughout-append : (at : ℕ) (body : List ℕ) → GoesOn b c → LeavesTornRow at body b c
+      → ((bytes content : List ℕ) → b.bytes ≡ Some bytes → P bytes → IsTornRow at body bytes content → P content)
+      → Throughout P a c
+  Throughout-append at body time torn outlives =
+      adds time
+      (from_each b.bytes _ (λ bytes is some content left. ⊎_elim (λ old. inl old)
+      (λ differs. inr (outlives bytes content is (Throughout-bytes bytes is) differs))
+      (at_some b.bytes (λ x. AddsOnly b c (IsTornRow at body x)) bytes is torn.may_leave some content left)))
+      (from_each b.bytes _ (λ bytes is says image left.
+      outlives bytes image is (Throughout-bytes bytes is)
+      (at_some b.bytes (λ x. LeavesOnly b c (IsTornRow at body x)) bytes is torn.images says image left)))
+
+  -- over an append to a bank of which the open rows are known, where P outlives any row there that the bank keeps
+  pub Throughout-row : {T E : Type 0} (bank : Bank) (at : ℕ) (bodies : List (List ℕ)) (body : List ℕ)
+      (result : Result T E) → Touches at (5 + length body) b c → KeepsRows bank bodies body b c result
+      → ((bytes content : List ℕ) → b.bytes ≡ Some bytes → P bytes → DiffersIn at (5 + length body) bytes content
+      → HasRowsOrOneMore (bank_bytes bank content) bodies body → P content)
+      → Throughout P a c
+  Throughout-row bank at bodies body result touches keeps outlives =
+      adds touches.time
+      (from_each b.bytes _ (λ bytes is some content left. ⊎_elim (λ old. inl old)
+      (λ differs. ⊎_elim (λ old. inl old)
+      (λ rows. inr (outlives bytes content is (Throughout-bytes bytes is) differs rows))
+      (keeps.may_leave some content left))
+      (at_some b.bytes (λ x. AddsOnly b c (Differs x)) bytes is touches.may_leave some content left)))
+      (from_each b.bytes _ (λ bytes is says image left.
+      outlives bytes image is (Throughout-bytes bytes is)
+      (at_some b.bytes (λ x. LeavesOnly b c (Differs x)) bytes is touches.images says image left)
+      (keeps.images says image left)))
+    where
+      Differs : List ℕ → List ℕ → Type 0
+      Differs bytes content = DiffersIn at (5 + length body) bytes content

@@ -1,5 +1,5 @@
 /// What a refused call was handed, and why it was refused.
-#[derive(Debug, Drop)]
+#[derive(Debug, PartialEq, Eq, Drop)]
 pub struct Back<T, E> {
     pub value: T,
     pub fault: E,
