@@ -7,7 +7,7 @@ use Rattle.flash_pages.specs.Bank.{start_of, end_of, bank_bytes}
 use Rattle.flash_pages.specs.Bytes.{blank, part, patch, DiffersIn}
 use Rattle.flash_pages.specs.Flash.{FlashState, block_len, card_blocks, IsFlash, IsSettled, HasImages, LeavesOnly, AddsOnly, Changes, Touches}
 use Rattle.flash_pages.specs.Rows.{behind_gate, row_of, HasRows}
-use Rattle.flash_pages.proofs.Patches.{patch_gate, part_before, part-blank, take-patch-front}
+use Rattle.flash_pages.proofs.Patches.{patch_gate, part_before, part-blank, take-patch-prefix}
 use Rattle.flash_pages.proofs.Touched.{at_some, from_each, same_some, flash_size, LeavesOnly-trans, AddsOnly-trans, AddsOnly-weaken, Touches-wider, Touches-trans, Touches-from_changes}
 use Rattle.flash_pages.proofs.RowLemmas.{length-behind_gate}
 use Rattle.flash_pages.proofs.Outcome.{torn_in_bank, appended_in_bank}
@@ -18,21 +18,29 @@ on_err (Ok x) P err = absurd (false≢true err)
 on_err (Err e) P err = tt
 
 -- a failure before the gate
-module _ (a b : FlashState) (at : ℕ) (body : List ℕ) (first : Touches (at + 1) (4 + length body) a b) where
+module _ (a b : FlashState) (at : ℕ) (body : List ℕ)
+    (first : Touches (at + 1) (4 + length body) a b) where
   pub torn_first : LeavesTornRow at body a b
   torn_first = record {
     bytes = from_each a.bytes _ (λ before is. from_each b.bytes _
-        (λ now is_now. inl (at_some b.bytes _ now is_now (at_some a.bytes _ before is first.bytes))));
-    may_leave = from_each a.bytes _ (λ before is. AddsOnly-weaken a b _ _ (λ image differs. inl differs)
-        (at_some a.bytes (λ x. AddsOnly a b (DiffersIn (at + 1) (4 + length body) x)) before is first.may_leave));
+        (λ now is_now. inl
+        (at_some b.bytes _ now is_now (at_some a.bytes _ before is first.bytes))));
+    may_leave = from_each a.bytes _
+        (λ before is. AddsOnly-weaken a b _ _ (λ image differs. inl differs)
+        (at_some a.bytes
+        (λ x. AddsOnly a b
+        (DiffersIn (at + 1) (4 + length body) x)) before is first.may_leave));
     images = from_each a.bytes _ (λ before is says image left. inl
-        (at_some a.bytes (λ x. LeavesOnly a b (DiffersIn (at + 1) (4 + length body) x)) before is first.images says
+        (at_some a.bytes
+        (λ x. LeavesOnly a b
+        (DiffersIn (at + 1) (4 + length body) x)) before is first.images says
         image left));
   }
 
   pub touches_first : Touches at (5 + length body) a b
   touches_first =
-      Touches-wider (at + 1) (4 + length body) at (5 + length body) a b (omega arith) (omega arith) first
+      Touches-wider (at + 1) (4 + length body) at (5 + length body) a b (omega arith)
+      (omega arith) first
 
   pub appends_first : {T E : Type 0} (result : Result T E) → IsErr result → b.erased ≡ a.erased
       → AppendsRow at body a b result
@@ -44,7 +52,8 @@ module _ (a b : FlashState) (at : ℕ) (body : List ℕ) (first : Touches (at + 
   }
 
 -- the gate's program
-module _ {E : Type 0} (blocks : ℕ) (a b c : FlashState) (at : ℕ) (body : List ℕ) (result : Result Unit E)
+module _ {E : Type 0} (blocks : ℕ) (a b c : FlashState) (at : ℕ) (body : List ℕ)
+    (result : Result Unit E)
     (lawful : IsFlash blocks c) (first : Touches (at + 1) (4 + length body) a b)
     (content : IfSome a.bytes (λ before. b.bytes ≡ Some (patch before (at + 1) (behind_gate body))))
     (gate : Changes at (0 ∷ []) b c result) where
@@ -64,21 +73,26 @@ module _ {E : Type 0} (blocks : ℕ) (a b c : FlashState) (at : ℕ) (body : Lis
   torn_both = record {
     bytes = from_each a.bytes _ (λ before is. from_each c.bytes _ (λ now is_now.
         inr (at_some c.bytes _ now is_now
-        (at_some b.bytes (λ x. IfSome c.bytes (DiffersIn at 1 x)) (patched before) (content_at before is)
+        (at_some b.bytes (λ x. IfSome c.bytes (DiffersIn at 1 x)) (patched before)
+        (content_at before is)
         gate.torn))));
     may_leave = from_each a.bytes _ (λ before is.
         let early : AddsOnly a b (IsTornRow at body before) =
-        at_some a.bytes (λ x. AddsOnly a b (IsTornRow at body x)) before is (torn_first a b at body first).may_leave in
+        at_some a.bytes (λ x. AddsOnly a b (IsTornRow at body x)) before is
+        (torn_first a b at body first).may_leave in
         let late : AddsOnly b c (DiffersIn at 1 (patched before)) =
-        at_some b.bytes (λ x. AddsOnly b c (DiffersIn at 1 x)) (patched before) (content_at before is)
+        at_some b.bytes (λ x. AddsOnly b c (DiffersIn at 1 x)) (patched before)
+        (content_at before is)
         gate.may_leave in
         AddsOnly-trans a b c (IsTornRow at body before) gate.time early
         (AddsOnly-weaken b c _ _ (λ image differs. inr differs) late));
     images = from_each a.bytes _ (λ before is.
         let early : LeavesOnly a b (IsTornRow at body before) =
-        at_some a.bytes (λ x. LeavesOnly a b (IsTornRow at body x)) before is (torn_first a b at body first).images in
+        at_some a.bytes (λ x. LeavesOnly a b (IsTornRow at body x)) before is
+        (torn_first a b at body first).images in
         let late : LeavesOnly b c (IsTornRow at body before) = λ says image left.
-        inr ((at_some b.bytes (λ x. HasImages b c (DiffersIn at 1 x)) (patched before) (content_at before is)
+        inr ((at_some b.bytes (λ x. HasImages b c (DiffersIn at 1 x)) (patched before)
+        (content_at before is)
         gate.images says image).0 left) in
         LeavesOnly-trans a b c (IsTornRow at body before) first.time gate.time early late);
   }
@@ -86,7 +100,8 @@ module _ {E : Type 0} (blocks : ℕ) (a b c : FlashState) (at : ℕ) (body : Lis
   pub done_both : IsTrue (is_ok result) → (before : List ℕ) → a.bytes ≡ Some before
       → at + 5 + length body ≤ length before → c.bytes ≡ Some (patch before at (row_of body))
   done_both ok before is fits =
-      at_some b.bytes (λ x. c.bytes ≡ Some (patch x at (0 ∷ []))) (patch before (at + 1) (behind_gate body))
+      at_some b.bytes (λ x. c.bytes ≡ Some (patch x at (0 ∷ [])))
+      (patch before (at + 1) (behind_gate body))
       (content_at before is) (gate.done ok)
       ∙ ap Some (patch_gate before at 0 (behind_gate body) (omega (arith, length-behind_gate body)))
 
@@ -99,7 +114,8 @@ module _ {E : Type 0} (blocks : ℕ) (a b c : FlashState) (at : ℕ) (body : Lis
     touches = touches_both;
   }
 
-  pub appends_done : {T F : Type 0} (x : T) → IsTrue (is_ok result) → b.erased ≡ a.erased → c.erased ≡ b.erased
+  pub appends_done : {T F : Type 0} (x : T) → IsTrue (is_ok result) → b.erased ≡ a.erased
+      → c.erased ≡ b.erased
       → ((before : List ℕ) → a.bytes ≡ Some before → at + 5 + length body ≤ length before)
       → AppendsRow {T = T} {E = F} at body a c (Ok x)
   appends_done x ok early late fits = record {
@@ -116,7 +132,7 @@ pub gate_erased : (before : List ℕ) (at : ℕ) (body : List ℕ) → at + 5 + 
 gate_erased before at body fits erased =
     let here : at + 0 ≡ at = omega arith in
     part_before at 1 (at + 1) (patch before (at + 1) (behind_gate body)) before (omega arith)
-    (take-patch-front before (at + 1) (behind_gate body) (omega (arith, length-behind_gate body)))
+    (take-patch-prefix before (at + 1) (behind_gate body) (omega (arith, length-behind_gate body)))
     ∙ sym (ap (λ (k : ℕ). part k 1 before) here)
     ∙ part-blank at (5 + length body) 0 1 before (omega arith) erased
 
@@ -125,7 +141,8 @@ pub row_fits : (before : List ℕ) (at len : ℕ) (bank : Bank) {a : FlashState}
     → a.bytes ≡ Some before → at + 5 + len ≤ end_of bank → bank.first + bank.blocks ≤ card_blocks
     → at + 5 + len ≤ length before
 row_fits before at len bank {a} lawful is fits inside =
-    let size : length before ≡ block_len * card_blocks = flash_size card_blocks a lawful before is in
+    let size : length before ≡ block_len * card_blocks =
+    flash_size card_blocks a lawful before is in
     omega (arith, size, fits, inside)
 
 -- what stands behind the gate reads FF at first
@@ -134,12 +151,15 @@ pub rest_erased : (before : List ℕ) (at len : ℕ) → part at (5 + len) befor
 rest_erased before at len erased = part-blank at (5 + len) 1 (4 + len) before (omega arith) erased
 
 -- the open rows of the bank
-module _ {T E : Type 0} (blocks : ℕ) (a c : FlashState) (bank : Bank) (at : ℕ) (body : List ℕ) (result : Result T E)
-    (lawful : IsFlash blocks a) (from_start : start_of bank ≤ at) (fits : at + 5 + length body ≤ end_of bank)
+module _ {T E : Type 0} (blocks : ℕ) (a c : FlashState) (bank : Bank) (at : ℕ) (body : List ℕ)
+    (result : Result T E)
+    (lawful : IsFlash blocks a) (from_start : start_of bank ≤ at)
+    (fits : at + 5 + length body ≤ end_of bank)
     (inside : bank.first + bank.blocks ≤ blocks) (torn : LeavesTornRow at body a c)
     (appends : AppendsRow at body a c result) where
   abbrev Rows : List ℕ → Type 0
-  Rows before = (bodies : List (List ℕ)) → EndsAt (bank_bytes bank before) bodies (at - start_of bank) (length body)
+  Rows before = (bodies : List (List ℕ))
+      → EndsAt (bank_bytes bank before) bodies (at - start_of bank) (length body)
       → KeepsRows bank bodies body a c result
 
   pub rows_after : IfSome a.bytes Rows
@@ -155,17 +175,20 @@ module _ {T E : Type 0} (blocks : ℕ) (a c : FlashState) (bank : Bank) (at : �
         may_leave = AddsOnly-weaken a c _ _ kept
             (at_some a.bytes (λ x. AddsOnly a c (IsTornRow at body x)) before is torn.may_leave);
         images = λ says image left. kept image
-            (at_some a.bytes (λ x. LeavesOnly a c (IsTornRow at body x)) before is torn.images says image left);
+            (at_some a.bytes
+            (λ x. LeavesOnly a c (IsTornRow at body x)) before is torn.images says image left);
         done = ok_rows result before bodies ends is in_flash appends.done;
       })
     where
       ok_rows : (r : Result T E) (before : List ℕ) (bodies : List (List ℕ))
-          → EndsAt (bank_bytes bank before) bodies (at - start_of bank) (length body) → a.bytes ≡ Some before
+          → EndsAt (bank_bytes bank before) bodies (at - start_of bank) (length body)
+          → a.bytes ≡ Some before
           → end_of bank ≤ length before
           → OnOk r (IfSome a.bytes (λ x. c.bytes ≡ Some (patch x at (row_of body))))
           → OnOk r (IfSome c.bytes (λ bytes. HasRows (bank_bytes bank bytes) (bodies ++ body ∷ [])))
       ok_rows (Err e) before bodies ends is in_flash done = tt
       ok_rows (Ok x) before bodies ends is in_flash done = from_each c.bytes _ (λ now is_now.
-          let patched = at_some a.bytes (λ l. c.bytes ≡ Some (patch l at (row_of body))) before is done in
+          let patched = at_some a.bytes
+          (λ l. c.bytes ≡ Some (patch l at (row_of body))) before is done in
           appended_in_bank bank at body before now from_start fits in_flash bodies ends
           (same_some now (patch before at (row_of body)) (sym is_now ∙ patched)))

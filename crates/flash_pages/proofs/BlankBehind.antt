@@ -30,7 +30,8 @@ unfolding blank
 blank-add n m = sym (replicate-append-replicate n m 255)
 
 -- two parts of FF, one behind the other
-pub blank-more : (at n m : ℕ) (bytes : List ℕ) → part at n bytes ≡ blank n → part (at + n) m bytes ≡ blank m
+pub blank-more : (at n m : ℕ) (bytes : List ℕ) → part at n bytes ≡ blank n
+    → part (at + n) m bytes ≡ blank m
     → part at (n + m) bytes ≡ blank (n + m)
 blank-more at n m bytes first second =
     take-add n m (drop at bytes)
@@ -45,15 +46,19 @@ EndsBlank-blank bytes is =
     let all : length bytes ≡ length bytes - 0 = omega arith in
     record { end = refl; rows = is ∙ ap blank all }
 
-module _ (bytes : List ℕ) (bodies : List (List ℕ)) (place : ℕ) (ends : EndsBlank bytes bodies place) where
+module _ (bytes : List ℕ) (bodies : List (List ℕ)) (place : ℕ)
+    (ends : EndsBlank bytes bodies place) where
   abbrev behind : ℕ
   behind = length bytes - place
 
   within : place ≤ length bytes
-  within = omega (arith, ends.end, ap length ends.rows, length-append (rows_of bodies) (blank behind))
+  within = omega
+      (arith, ends.end, ap length ends.rows, length-append (rows_of bodies) (blank behind))
 
   drop-behind : drop place bytes ≡ blank behind
-  drop-behind = ap (drop place) ends.rows ∙ drop_at (rows_of bodies) (blank behind) place (sym ends.end)
+  drop-behind =
+      ap (drop place) ends.rows
+      ∙ drop_at (rows_of bodies) (blank behind) place (sym ends.end)
 
   drop-further : (k : ℕ) → drop (place + k) bytes ≡ blank (behind - k)
   drop-further k =
@@ -76,7 +81,8 @@ module _ (bytes : List ℕ) (bodies : List (List ℕ)) (place : ℕ) (ends : End
 
   -- the bytes that it takes read FF
   pub EndsBlank-erased : (n : ℕ) → place + n ≤ length bytes → part place n bytes ≡ blank n
-  EndsBlank-erased n fits = ap (take n) drop-behind ∙ take-blank n behind (omega (arith, fits, within))
+  EndsBlank-erased n fits =
+      ap (take n) drop-behind ∙ take-blank n behind (omega (arith, fits, within))
 
   -- and after it the rest still does
   pub EndsBlank-append : (body : List ℕ) → place + 5 + length body ≤ length bytes
@@ -85,23 +91,27 @@ module _ (bytes : List ℕ) (bodies : List (List ℕ)) (place : ℕ) (ends : End
       let row = row_of body in
       let row_length = length-row_of body in
       let size = length-patch bytes place row (omega (arith, row_length, fits)) in
-      let next : place + length row ≡ place + (5 + length body) = ap (λ (k : ℕ). place + k) row_length in
-      let left : behind - (5 + length body) ≡ length (patch bytes place row) - (place + 5 + length body) =
+      let next : place + length row ≡ place + (5 + length body) =
+      ap (λ (k : ℕ). place + k) row_length in
+      let left : behind - (5 + length body) ≡ length (patch bytes place row) -
+      (place + 5 + length body) =
       omega (arith, size, within) in
-      let front : take place bytes ≡ rows_of bodies =
+      let prefix : take place bytes ≡ rows_of bodies =
       ap (take place) ends.rows ∙ take_at (rows_of bodies) (blank behind) place (sym ends.end) in
-      let rest : drop (place + length row) bytes ≡ blank (length (patch bytes place row) - (place + 5 + length body)) =
+      let rest : drop (place + length row) bytes ≡ blank
+      (length (patch bytes place row) - (place + 5 + length body)) =
       ap (λ (k : ℕ). drop k bytes) next ∙ drop-further (5 + length body) ∙ ap blank left in
       record {
         end = omega (arith, length-rows_of-push bodies body, ends.end);
-        rows = ap (λ (l : List ℕ). l ++ row ++ drop (place + length row) bytes) front
+        rows = ap (λ (l : List ℕ). l ++ row ++ drop (place + length row) bytes) prefix
             ∙ append_assoc (rows_of bodies) row (drop (place + length row) bytes)
             ∙ sym (rows_of-push bodies body (drop (place + length row) bytes))
             ∙ ap (λ (l : List ℕ). rows_of (bodies ++ body ∷ []) ++ l) rest;
       }
 
 -- the same of a bank in a flash
-module _ (bank : Bank) (at : ℕ) (image : List ℕ) (bodies : List (List ℕ)) (from_start : start_of bank ≤ at)
+module _ (bank : Bank) (at : ℕ) (image : List ℕ) (bodies : List (List ℕ))
+    (from_start : start_of bank ≤ at)
     (inside : end_of bank ≤ length image)
     (ends : EndsBlank (bank_bytes bank image) bodies (at - start_of bank)) where
   abbrev place_in : ℕ
@@ -122,13 +132,18 @@ module _ (bank : Bank) (at : ℕ) (image : List ℕ) (bodies : List (List ℕ)) 
       ((at + 5 + length body) - start_of bank)
   bank-append body fits =
       let size = length-bank_bytes bank image inside in
-      let moved : bank_bytes bank (patch image at (row_of body)) ≡ patch (bank_bytes bank image) place_in (row_of body) =
+      let moved : bank_bytes bank (patch image at (row_of body)) ≡ patch
+      (bank_bytes bank image) place_in (row_of body) =
       ap (λ (k : ℕ). bank_bytes bank (patch image k (row_of body))) (sym there)
       ∙ part-patch (start_of bank) (4096 * bank.blocks) place_in image (row_of body)
       (omega (arith, length-row_of body)) (omega (arith, length-row_of body)) in
-      let next : place_in + 5 + length body ≡ (at + 5 + length body) - start_of bank = omega arith in
-      let appended = EndsBlank-append (bank_bytes bank image) bodies place_in ends body (omega (arith, size)) in
-      let P : List ℕ → Type 0 = λ l. EndsBlank l (bodies ++ body ∷ []) ((at + 5 + length body) - start_of bank) in
+      let next : place_in + 5 + length body ≡ (at + 5 + length body) - start_of bank =
+      omega arith in
+      let appended =
+      EndsBlank-append (bank_bytes bank image) bodies place_in ends body (omega (arith, size)) in
+      let P : List ℕ → Type 0 =
+      λ l. EndsBlank l (bodies ++ body ∷ []) ((at + 5 + length body) - start_of bank) in
       let Q : ℕ → Type 0 =
-      λ k. EndsBlank (patch (bank_bytes bank image) place_in (row_of body)) (bodies ++ body ∷ []) k in
+      λ k. EndsBlank (patch (bank_bytes bank image) place_in (row_of body))
+      (bodies ++ body ∷ []) k in
       subst P (sym moved) (subst Q next appended)

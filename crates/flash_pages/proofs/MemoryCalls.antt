@@ -18,7 +18,9 @@ use Rattle.flash_pages.proofs.Patches.{length-blank, DiffersIn-refl, DiffersIn-p
 -- torn bytes, of which there are none, are FF
 pub repeated-nil : (n : ℕ) → repeated [] n ≡ blank n
 unfolding repeated blank
-repeated-nil n = sym (fill_by_all (torn_byte []) (blank n) n 0 (length-blank n) (λ k lt. get_or-replicate n k 255 0 lt))
+repeated-nil n =
+    sym (fill_by_all (torn_byte []) (blank n) n 0 (length-blank n)
+    (λ k lt. get_or-replicate n k 255 0 lt))
 
 length-range : (a n : ℕ) → length (range_with_len a n) ≡ n
 length-range a zero = refl
@@ -29,7 +31,8 @@ unfolding repeated
 length-repeated torn n = length-map (range_with_len 0 n) (torn_byte torn) ∙ length-range 0 n
 
 -- what a write leaves is what reads return after it
-pub content-write : (first : List ℕ) (at n : ℕ) (left : Option (List ℕ)) (ok : Bool) (calls : List Call)
+pub content-write : (first : List ℕ) (at n : ℕ) (left : Option (List ℕ)) (ok : Bool)
+    (calls : List Call)
     → content first (Write at n left ok ∷ calls) ≡ with_left (content first calls) at left
 content-write first at n None ok calls = refl
 content-write first at n (Some xs) ok calls = refl
@@ -64,7 +67,8 @@ module _ (first : List ℕ) where
   sized_call size (Write at n left ok) calls sized now t image (inl is) = ap length is ∙ now
   sized_call size (Write at n left ok) calls sized now t image (inr earlier) =
       ⊎_elim (λ since. sized t image since)
-      (λ differs. differs.same_length ∙ sized 0 (content first calls) (Since-now first calls 0 (content first calls) refl))
+      (λ differs. differs.same_length
+      ∙ sized 0 (content first calls) (Since-now first calls 0 (content first calls) refl))
       earlier.1
   sized_call size Restarted calls sized now t image (inl is) = ap length is ∙ now
   sized_call size Restarted calls sized now t image (inr earlier) =
@@ -77,8 +81,10 @@ kept past call = record past { calls = call ∷ past.calls }
 abbrev lost : Past → Past
 lost past = record past { known = false }
 
-module _ (past : Past) (b b' : List ℕ) (p e f p' e' f' : ℕ) (programmed : p ≤ p') (erased : e ≤ e') (faults : f ≤ f') where
-  kept_time : (call : Call) → GoesOn (memory_state past b p e f) (memory_state (kept past call) b' p' e' f')
+module _ (past : Past) (b b' : List ℕ) (p e f p' e' f' : ℕ) (programmed : p ≤ p') (erased : e ≤ e')
+    (faults : f ≤ f') where
+  kept_time : (call : Call)
+      → GoesOn (memory_state past b p e f) (memory_state (kept past call) b' p' e' f')
   kept_time call = record {
     later = omega arith;
     bytes_known = (λ some. refl, λ some. refl);
@@ -118,10 +124,14 @@ lost_leaves past b p e f P here some image (inl is) = subst P (sym is) here
 lost_leaves past b p e f P here some image (inr since) = absurd (false≢true since.0)
 
 -- a program or an erase
-module _ {E : Type 0} (past : Past) (at n : ℕ) (left : Option (List ℕ)) (ok : Bool) (b given : List ℕ)
-    (p e f p' e' f' : ℕ) (result : Result Unit E) (replays : IsTrue past.known → content past.first past.calls ≡ b)
-    (size : length given ≡ n) (fits : at + n ≤ length b) (left_size : IfSome left (λ xs. length xs ≡ n))
-    (done : IsTrue ok → left ≡ Some given) (is : is_ok result ≡ ok) (programmed : p ≤ p') (erased : e ≤ e')
+module _ {E : Type 0} (past : Past) (at n : ℕ) (left : Option (List ℕ)) (ok : Bool)
+    (b given : List ℕ)
+    (p e f p' e' f' : ℕ) (result : Result Unit E)
+    (replays : IsTrue past.known → content past.first past.calls ≡ b)
+    (size : length given ≡ n) (fits : at + n ≤ length b)
+    (left_size : IfSome left (λ xs. length xs ≡ n))
+    (done : IsTrue ok → left ≡ Some given) (is : is_ok result ≡ ok) (programmed : p ≤ p')
+    (erased : e ≤ e')
     (faults : f ≤ f') where
   abbrev call : Call
   call = Write at n left ok
@@ -134,7 +144,8 @@ module _ {E : Type 0} (past : Past) (at n : ℕ) (left : Option (List ℕ)) (ok 
 
   differs : Differs (with_left b at left)
   differs =
-      subst (λ (k : ℕ). DiffersIn at k b (with_left b at left)) (sym size) (differs_left at n left b fits left_size)
+      subst (λ (k : ℕ). DiffersIn at k b (with_left b at left)) (sym size)
+      (differs_left at n left b fits left_size)
 
   done_bytes : IsTrue (is_ok result) → Some (with_left b at left) ≡ Some (patch b at given)
   done_bytes yes' = ap (λ (l : Option (List ℕ)). Some (with_left b at l)) (done (sym is ∙ yes'))
@@ -145,11 +156,14 @@ module _ {E : Type 0} (past : Past) (at n : ℕ) (left : Option (List ℕ)) (ok 
 
     wide : (image : List ℕ) → DiffersIn at n (content past.first past.calls) image → Differs image
     wide image d =
-        subst (λ (k : ℕ). DiffersIn at k b image) (sym size) (subst (λ (l : List ℕ). DiffersIn at n l image) same d)
+        subst (λ (k : ℕ). DiffersIn at k b image) (sym size)
+        (subst (λ (l : List ℕ). DiffersIn at n l image) same d)
 
-    after_is : (image : List ℕ) → image ≡ content past.first (call ∷ past.calls) → image ≡ with_left b at left
+    after_is : (image : List ℕ) → image ≡ content past.first (call ∷ past.calls)
+        → image ≡ with_left b at left
     after_is image now =
-        now ∙ content-write past.first at n left ok past.calls ∙ ap (λ (l : List ℕ). with_left l at left) same
+        now ∙ content-write past.first at n left ok past.calls
+        ∙ ap (λ (l : List ℕ). with_left l at left) same
 
     after_it : (image : List ℕ) → image ≡ content past.first (call ∷ past.calls) → Differs image
     after_it image now = subst Differs (sym (after_is image now)) differs
@@ -157,13 +171,15 @@ module _ {E : Type 0} (past : Past) (at n : ℕ) (left : Option (List ℕ)) (ok 
     before_it : (image : List ℕ) → image ≡ content past.first past.calls → Differs image
     before_it image now = subst Differs (sym (now ∙ same)) (DiffersIn-refl at (length given) b)
 
-    image_of : (image : List ℕ) → Since past.first (call ∷ past.calls) (length past.calls) image ↔ Differs image
+    image_of : (image : List ℕ)
+        → Since past.first (call ∷ past.calls) (length past.calls) image ↔ Differs image
     image_of image = (to, from)
       where
         to : Since past.first (call ∷ past.calls) (length past.calls) image → Differs image
         to (inl now) = after_it image now
         to (inr earlier) =
-            ⊎_elim (λ since. before_it image (Since-only past.first past.calls image since)) (wide image) earlier.1
+            ⊎_elim (λ since. before_it image (Since-only past.first past.calls image since))
+            (wide image) earlier.1
 
         from : Differs image → Since past.first (call ∷ past.calls) (length past.calls) image
         from d =
@@ -175,37 +191,45 @@ module _ {E : Type 0} (past : Past) (at n : ℕ) (left : Option (List ℕ)) (ok 
 
     -- the images since the last Ok
     since_ok : (o : Bool) (image : List ℕ)
-        → Since past.first (call ∷ past.calls) (if o then suc (length past.calls) else last_ok past.calls) image
+        → Since past.first (call ∷ past.calls)
+        (if o then suc (length past.calls) else last_ok past.calls) image
         → Since past.first past.calls (last_ok past.calls) image ⊎ Differs image
     since_ok o image (inl now) = inr (after_it image now)
     since_ok true image (inr earlier) = absurd (omega (arith, earlier.0))
-    since_ok false image (inr earlier) = ⊎_elim (λ since. inl since) (λ d. inr (wide image d)) earlier.1
+    since_ok false image (inr earlier) =
+        ⊎_elim (λ since. inl since) (λ d. inr (wide image d)) earlier.1
 
     kept_leaves : (image : List ℕ) → MayLeave (kept past call) (with_left b at left) image
         → MayLeave past b image ⊎ Differs image
     kept_leaves image (inl now) = inr (subst Differs (sym now) differs)
-    kept_leaves image (inr since) = ⊎_elim (λ was. inl (inr (known, was))) (λ d. inr d) (since_ok ok image since.1)
+    kept_leaves image (inr since) =
+        ⊎_elim (λ was. inl (inr (known, was))) (λ d. inr d) (since_ok ok image since.1)
 
     only_after : (o : Bool) → IsTrue o → (image : List ℕ)
-        → Since past.first (call ∷ past.calls) (if o then suc (length past.calls) else last_ok past.calls) image
+        → Since past.first (call ∷ past.calls)
+        (if o then suc (length past.calls) else last_ok past.calls) image
         → image ≡ with_left b at left
-    only_after true yes' image since = after_is image (Since-only past.first (call ∷ past.calls) image since)
+    only_after true yes' image since =
+        after_is image (Since-only past.first (call ∷ past.calls) image since)
     only_after false isn't image since = absurd (false≢true isn't)
 
-    kept_settled : IsTrue ok → (image : List ℕ) → MayLeave (kept past call) (with_left b at left) image
+    kept_settled : IsTrue ok → (image : List ℕ)
+        → MayLeave (kept past call) (with_left b at left) image
         → Some (with_left b at left) ≡ Some image
     kept_settled yes' image (inl now) = ap Some (sym now)
     kept_settled yes' image (inr since) = ap Some (sym (only_after ok yes' image since.1))
 
   by_room : (keep : Bool) → (IsTrue keep → IsTrue past.known)
       → Changes at given (memory_state past b p e f)
-      (memory_state (if keep then kept past call else lost past) (with_left b at left) p' e' f') result
+      (memory_state (if keep then kept past call else lost past)
+      (with_left b at left) p' e' f') result
   by_room false was = record {
     time = lost_time past b (with_left b at left) p e f p' e' f' programmed erased faults;
     done = done_bytes;
     settled = λ yes'. lost_settled past (with_left b at left) p' e' f';
     torn = differs;
-    may_leave = lost_leaves past (with_left b at left) p' e' f' (λ image. MayLeave past b image ⊎ Differs image) (inr differs);
+    may_leave = lost_leaves past (with_left b at left) p' e' f'
+        (λ image. MayLeave past b image ⊎ Differs image) (inr differs);
     images = λ says. absurd (false≢true says);
   }
   by_room true was = record {
@@ -224,29 +248,40 @@ has_room past = past.known && nat_lt (length past.calls) past.room
 room_known : (past : Past) → IsTrue (has_room past) → IsTrue past.known
 room_known past room = and_left past.known (nat_lt (length past.calls) past.room) room
 
-pub Changes-memory : {E : Type 0} (past past' : Past) (at n : ℕ) (left : Option (List ℕ)) (ok : Bool)
-    (b b' given : List ℕ) (p e f p' e' f' : ℕ) (result : Result Unit E) → past' ≡ after_call past (Write at n left ok)
-    → (IsTrue past.known → content past.first past.calls ≡ b) → b' ≡ with_left b at left → length given ≡ n
-    → at + n ≤ length b → IfSome left (λ xs. length xs ≡ n) → (IsTrue ok → left ≡ Some given) → is_ok result ≡ ok
-    → p ≤ p' → e ≤ e' → f ≤ f' → Changes at given (memory_state past b p e f) (memory_state past' b' p' e' f') result
-Changes-memory {E} past past' at n left ok b b' given p e f p' e' f' result past_is replays b_is size fits left_size
+pub Changes-memory : {E : Type 0} (past past' : Past) (at n : ℕ) (left : Option (List ℕ))
+    (ok : Bool)
+    (b b' given : List ℕ) (p e f p' e' f' : ℕ) (result : Result Unit E)
+    → past' ≡ after_call past (Write at n left ok)
+    → (IsTrue past.known → content past.first past.calls ≡ b) → b' ≡ with_left b at left
+    → length given ≡ n
+    → at + n ≤ length b → IfSome left (λ xs. length xs ≡ n) → (IsTrue ok → left ≡ Some given)
+    → is_ok result ≡ ok
+    → p ≤ p' → e ≤ e' → f ≤ f'
+    → Changes at given (memory_state past b p e f) (memory_state past' b' p' e' f') result
+Changes-memory {E} past past' at n left ok b b' given p e f p' e' f' result past_is replays b_is
+    size fits left_size
     done is programmed erased faults =
     let after : Past → List ℕ → Type 0 =
     λ q l. Changes at given (memory_state past b p e f) (memory_state q l p' e' f') result in
     let changes : after (after_call past (Write at n left ok)) (with_left b at left) =
-    by_room past at n left ok b given p e f p' e' f' result replays size fits left_size done is programmed erased
+    by_room past at n left ok b given p e f p' e' f' result replays size fits left_size done is
+    programmed erased
     faults (has_room past) (room_known past) in
     subst (λ (q : Past). after q b') (sym past_is)
     (subst (λ (l : List ℕ). after (after_call past (Write at n left ok)) l) (sym b_is) changes)
 
--- what a flash in memory keeps of its calls: they still return its bytes, and each image has the flash's length
+-- what a flash in memory keeps of its calls: they still return its bytes, and each image has the
+-- flash's length
 pub record IsKept (size : ℕ) (past : Past) (b : List ℕ) : Type 0 where
   pub replays : IsTrue past.known → content past.first past.calls ≡ b
-  pub images_sized : IsTrue past.known → (t : ℕ) (image : List ℕ) → Since past.first past.calls t image
+  pub images_sized : IsTrue past.known → (t : ℕ) (image : List ℕ)
+      → Since past.first past.calls t image
       → length image ≡ size
 
-pub kept_after : (size : ℕ) (past past' : Past) (call : Call) (b b' : List ℕ) → past' ≡ after_call past call
-    → IsKept size past b → (IsTrue past.known → content past.first (call ∷ past.calls) ≡ b') → length b' ≡ size
+pub kept_after : (size : ℕ) (past past' : Past) (call : Call) (b b' : List ℕ)
+    → past' ≡ after_call past call
+    → IsKept size past b → (IsTrue past.known → content past.first (call ∷ past.calls) ≡ b')
+    → length b' ≡ size
     → IsKept size past' b'
 kept_after size past past' call b b' is before next sized =
     subst (λ (q : Past). IsKept size q b') (sym is) (by_test (has_room past) (room_known past))
@@ -272,7 +307,8 @@ Reads-memory past b p e f f' replays faults = record {
     later = omega arith;
     bytes_known = (λ some. some, λ some. some);
     images_known = λ says. says;
-    images = λ says. record { keeps = λ t image le since. since; adds = λ t image le since. inl since };
+    images = λ says. record
+        { keeps = λ t image le since. since; adds = λ t image le since. inl since };
     programmed = omega arith;
     erased = omega arith;
     faults = faults;
@@ -281,7 +317,8 @@ Reads-memory past b p e f f' replays faults = record {
   may_leave = λ some image. (λ left. left, λ left. left);
   images = λ says image. (
     λ since. ap Some (sym (Since-only past.first past.calls image since ∙ replays says)),
-    λ is. Since-now past.first past.calls (length past.calls) image (same_some image (replays says) is),
+    λ is. Since-now past.first past.calls (length past.calls) image
+        (same_some image (replays says) is),
   );
   programmed = refl;
   erased = refl;
@@ -296,10 +333,12 @@ module _ {E : Type 0} (past : Past) (b : List ℕ) (p e f : ℕ) (result : Resul
     (replays : IsTrue past.known → content past.first past.calls ≡ b) where
   module _ (known : IsTrue past.known) where
     inside_restart : (image : List ℕ)
-        → Since past.first (Restarted ∷ past.calls) (length past.calls) image ↔ MayLeave past b image
+        → Since past.first (Restarted ∷ past.calls)
+        (length past.calls) image ↔ MayLeave past b image
     inside_restart image = (to, from)
       where
-        to : Since past.first (Restarted ∷ past.calls) (length past.calls) image → MayLeave past b image
+        to : Since past.first (Restarted ∷ past.calls) (length past.calls) image
+            → MayLeave past b image
         to (inl now) = inl (now ∙ replays known)
         to (inr earlier) =
             ⊎_elim
@@ -307,7 +346,8 @@ module _ {E : Type 0} (past : Past) (b : List ℕ) (p e f : ℕ) (result : Resul
             (λ inside. inr (known, inside))
             earlier.1
 
-        from : MayLeave past b image → Since past.first (Restarted ∷ past.calls) (length past.calls) image
+        from : MayLeave past b image
+            → Since past.first (Restarted ∷ past.calls) (length past.calls) image
         from (inl now) = inl (now ∙ sym (replays known))
         from (inr since) = inr (omega arith, inr since.1)
 
@@ -338,15 +378,18 @@ module _ {E : Type 0} (past : Past) (b : List ℕ) (p e f : ℕ) (result : Resul
     erased = refl;
   }
 
-pub Restarts-memory : {E : Type 0} (past past' : Past) (b : List ℕ) (p e f : ℕ) (result : Result Unit E)
+pub Restarts-memory : {E : Type 0} (past past' : Past) (b : List ℕ) (p e f : ℕ)
+    (result : Result Unit E)
     → past' ≡ after_call past Restarted → (IsTrue past.known → content past.first past.calls ≡ b)
     → Restarts (memory_state past b p e f) (memory_state past' b p e f) result
 Restarts-memory {E} past past' b p e f result past_is replays =
-    subst (λ (q : Past). Restarts (memory_state past b p e f) (memory_state q b p e f) result) (sym past_is)
+    subst (λ (q : Past). Restarts (memory_state past b p e f) (memory_state q b p e f) result)
+    (sym past_is)
     (restarts_by_room past b p e f result replays (has_room past) (room_known past))
 
 -- a restart may leave just the images since the last Ok, and past the room just what reads return
-pub leaves_images : (past : Past) (b : List ℕ) (p e f : ℕ) → (IsTrue past.known → content past.first past.calls ≡ b)
+pub leaves_images : (past : Past) (b : List ℕ) (p e f : ℕ)
+    → (IsTrue past.known → content past.first past.calls ≡ b)
     → LeavesImagesSince (last_ok past.calls) (memory_state past b p e f)
 leaves_images past b p e f replays = record {
   in_room = λ known image. (to known image, λ since. inr (known, since));
@@ -355,7 +398,8 @@ leaves_images past b p e f replays = record {
   where
     to : IsTrue past.known → (image : List ℕ) → MayLeave past b image
         → Since past.first past.calls (last_ok past.calls) image
-    to known image (inl is) = Since-now past.first past.calls (last_ok past.calls) image (is ∙ sym (replays known))
+    to known image (inl is) =
+        Since-now past.first past.calls (last_ok past.calls) image (is ∙ sym (replays known))
     to known image (inr since) = since.1
 
     only : past.known ≡ false → (image : List ℕ) → MayLeave past b image → image ≡ b
@@ -363,9 +407,11 @@ leaves_images past b p e f replays = record {
     only unknown image (inr since) = absurd (false≢true (sym unknown ∙ since.0))
 
 -- the moment of the last Ok
-pub last_ok-after_call : (past past' : Past) (call : Call) (ok : Bool) → past' ≡ after_call past call
+pub last_ok-after_call : (past past' : Past) (call : Call) (ok : Bool)
+    → past' ≡ after_call past call
     → last_ok (call ∷ past.calls) ≡ (if ok then suc (length past.calls) else last_ok past.calls)
-    → IsTrue past'.known → last_ok past'.calls ≡ (if ok then length past'.calls else last_ok past.calls)
+    → IsTrue past'.known
+    → last_ok past'.calls ≡ (if ok then length past'.calls else last_ok past.calls)
 last_ok-after_call past past' call ok is says known =
     let P : Past → Type 0 =
     λ q. IsTrue q.known → last_ok q.calls ≡ (if ok then length q.calls else last_ok past.calls) in
@@ -373,11 +419,13 @@ last_ok-after_call past past' call ok is says known =
   where
     by_test : (keep : Bool) → IsTrue (if keep then kept past call else lost past).known
         → last_ok (if keep then kept past call else lost past).calls
-        ≡ (if ok then length (if keep then kept past call else lost past).calls else last_ok past.calls)
+        ≡ (if ok then length
+        (if keep then kept past call else lost past).calls else last_ok past.calls)
     by_test true known = says
     by_test false known = absurd (false≢true known)
 
-pub left_size : (outcome : Outcome) (torn : List ℕ) (n : ℕ) → IfSome (left_by outcome torn (blank n)) (λ xs. length xs ≡ n)
+pub left_size : (outcome : Outcome) (torn : List ℕ) (n : ℕ)
+    → IfSome (left_by outcome torn (blank n)) (λ xs. length xs ≡ n)
 left_size Done torn n = length-blank n
 left_size Torn torn n = length-repeated torn (length (blank n)) ∙ length-blank n
 left_size Off torn n = tt

@@ -21,7 +21,8 @@ rest_of_bank bank at image from_start to_end =
     let there : start + place ≡ at = omega arith in
     sym (ap (λ (n : ℕ). drop place (take n (drop start image))) (sym size)
     ∙ drop-take place (end_of bank - at) (drop start image)
-    ∙ ap (take (end_of bank - at)) (drop-drop place start image ∙ ap (λ (k : ℕ). drop k image) there))
+    ∙ ap (take (end_of bank - at))
+    (drop-drop place start image ∙ ap (λ (k : ℕ). drop k image) there))
 
 pub length-rows_of-push : (bodies : List (List ℕ)) (body : List ℕ)
     → length (rows_of (bodies ++ body ∷ [])) ≡ length (rows_of bodies) + (5 + length body)
@@ -33,17 +34,26 @@ length-rows_of-push bodies body =
     omega (arith, joined, left, right, last, length-row_of body)
 
 -- rows behind which neither an end nor a row stands, beside others that end
-no_rows : (before others : List (List ℕ)) (tail rest : List ℕ) → length (rows_of before ++ tail) < 2 ^ 32
+no_rows : (before others : List (List ℕ)) (tail rest : List ℕ)
+    → length (rows_of before ++ tail) < 2 ^ 32
     → (IsClosed tail → ⊥) → ((body : List ℕ) → length body < 2 ^ 32 → BeginsWithRow tail body → ⊥)
     → rows_of before ++ tail ≡ rows_of others ++ rest → IsClosed rest → ⊥
 no_rows [] [] tail rest small no_end no_row is closed = no_end (subst IsClosed (sym is) closed)
 no_rows [] (y ∷ ys) tail rest small no_end no_row is closed =
     let row = is ∙ append_assoc (row_of y) (rows_of ys) rest in
     let short : length y < 2 ^ 32 =
-    omega (arith, small, ap length row, length-append (row_of y) (rows_of ys ++ rest), length-row_of y) in
+    omega (
+      arith,
+      small,
+      ap length row,
+      length-append (row_of y)
+          (rows_of ys ++ rest),
+      length-row_of y,
+    ) in
     no_row y short (rows_of ys ++ rest, row)
 no_rows (x ∷ xs) [] tail rest small no_end no_row is closed =
-    not_closed x (rows_of xs ++ tail) rest (sym is ∙ append_assoc (row_of x) (rows_of xs) tail) closed
+    not_closed x (rows_of xs ++ tail) rest
+    (sym is ∙ append_assoc (row_of x) (rows_of xs) tail) closed
 no_rows (x ∷ xs) (y ∷ ys) tail rest small no_end no_row is closed =
     let one = append_assoc (row_of x) (rows_of xs) tail in
     let other = append_assoc (row_of y) (rows_of ys) rest in
@@ -51,12 +61,15 @@ no_rows (x ∷ xs) (y ∷ ys) tail rest small no_end no_row is closed =
     let size_y = ap length (is ∙ other) ∙ length-append (row_of y) (rows_of ys ++ rest) in
     let small_x : length x < 2 ^ 32 = omega (arith, small, size, length-row_of x) in
     let small_y : length y < 2 ^ 32 = omega (arith, small, size_y, length-row_of y) in
-    let same = same_row x y (rows_of xs ++ tail) (rows_of ys ++ rest) small_x small_y (sym one ∙ is ∙ other) in
+    let same = same_row x y (rows_of xs ++ tail) (rows_of ys ++ rest) small_x small_y
+    (sym one ∙ is ∙ other) in
     no_rows xs ys tail rest (omega (arith, small, size)) no_end no_row same.1 closed
 
-module _ (bytes : List ℕ) (bodies : List (List ℕ)) (place : ℕ) (so_far : RowsUpTo bytes bodies place) where
+module _ (bytes : List ℕ) (bodies : List (List ℕ)) (place : ℕ)
+    (so_far : RowsUpTo bytes bodies place) where
   pub split : (rest : List ℕ) → drop place bytes ≡ rest → bytes ≡ rows_of bodies ++ rest
-  split rest is = sym (take-append-drop place bytes) ∙ ap (λ (l : List ℕ). l ++ drop place bytes) so_far.rows
+  split rest is =
+      sym (take-append-drop place bytes) ∙ ap (λ (l : List ℕ). l ++ drop place bytes) so_far.rows
       ∙ ap (λ (l : List ℕ). rows_of bodies ++ l) is
 
   -- one more open row
@@ -66,7 +79,8 @@ module _ (bytes : List ℕ) (bodies : List (List ℕ)) (place : ℕ) (so_far : R
       let longer = length-rows_of-push bodies body in
       let whole : bytes ≡ rows_of (bodies ++ body ∷ []) ++ rest =
       split (row_of body ++ rest) row ∙ sym (rows_of-push bodies body rest) in
-      let end : place + 5 + length body ≡ length (rows_of (bodies ++ body ∷ [])) = omega (arith, longer, so_far.end) in
+      let end : place + 5 + length body ≡ length (rows_of (bodies ++ body ∷ [])) =
+      omega (arith, longer, so_far.end) in
       record {
         end = end;
         rows = ap (take (place + 5 + length body)) whole
@@ -80,7 +94,8 @@ module _ (bytes : List ℕ) (bodies : List (List ℕ)) (place : ℕ) (so_far : R
   RowsUpTo-open at here len next (body, (rest, row), size, here_is, next_is) =
       let behind : drop (place + 5) bytes ≡ body ++ rest =
       sym (drop-drop 5 place bytes) ∙ ap (drop 5) row in
-      let is_part : part (place + 5) len bytes ≡ body = ap (take len) behind ∙ take_at body rest len size in
+      let is_part : part (place + 5) len bytes ≡ body =
+      ap (take len) behind ∙ take_at body rest len size in
       let P : List ℕ → Type 0 =
       λ b. RowsUpTo bytes (bodies ++ b ∷ []) (place + 5 + len) × (length b ≡ len) in
       let Q : ℕ → Type 0 = λ n. RowsUpTo bytes (bodies ++ body ∷ []) (place + 5 + n) in
@@ -96,34 +111,45 @@ module _ (bytes : List ℕ) (bodies : List (List ℕ)) (place : ℕ) (so_far : R
   RowsUpTo-overrun at others small overrun (rest, is, closed) =
       let tail = drop place bytes in
       let whole = split tail refl in
-      no_rows bodies others tail rest (omega (arith, small, ap length whole)) overrun.0 overrun.1 (sym whole ∙ is) closed
+      no_rows bodies others tail rest (omega (arith, small, ap length whole)) overrun.0 overrun.1
+      (sym whole ∙ is) closed
 
 -- before the first row
 pub RowsUpTo-start : (bytes : List ℕ) → RowsUpTo bytes [] 0
 RowsUpTo-start bytes = record { end = refl; rows = refl }
 
 -- an open row that is read behind another
-read_from : (bytes : List ℕ) (body : List ℕ) (bodies : List (List ℕ)) → bytes ≡ row_of body ++ drop (5 + length body) bytes
+read_from : (bytes : List ℕ) (body : List ℕ) (bodies : List (List ℕ))
+    → bytes ≡ row_of body ++ drop (5 + length body) bytes
     → HasRows (drop (5 + length body) bytes) bodies → HasRows bytes (body ∷ bodies)
-read_from bytes body bodies row (rest, is, closed) =
-    (rest, row ∙ ap (λ (l : List ℕ). row_of body ++ l) is ∙ sym (append_assoc (row_of body) (rows_of bodies) rest), closed)
+read_from bytes body bodies row (rest, is, closed) = (
+  rest,
+  row ∙ ap (λ (l : List ℕ). row_of body ++ l) is
+      ∙ sym (append_assoc (row_of body) (rows_of bodies) rest),
+  closed,
+)
 
-behind_row : (bytes body rest : List ℕ) → bytes ≡ row_of body ++ rest → drop (5 + length body) bytes ≡ rest
+behind_row : (bytes body rest : List ℕ) → bytes ≡ row_of body ++ rest
+    → drop (5 + length body) bytes ≡ rest
 behind_row bytes body rest is =
-    ap (drop (5 + length body)) is ∙ drop_at (row_of body) rest (5 + length body) (length-row_of body)
+    ap (drop (5 + length body)) is
+    ∙ drop_at (row_of body) rest (5 + length body) (length-row_of body)
 
-pub reads_as : (at : ℕ) (bytes : List ℕ) (bodies : List (List ℕ)) → HasRows bytes bodies → ReadsAs at bytes bodies
+pub reads_as : (at : ℕ) (bytes : List ℕ) (bodies : List (List ℕ)) → HasRows bytes bodies
+    → ReadsAs at bytes bodies
 reads_as at bytes [] (rest, is, closed) = subst IsClosed (sym is) closed
 reads_as at bytes (body ∷ bodies) (rest, is, closed) =
     let row : bytes ≡ row_of body ++ (rows_of bodies ++ rest) =
     is ∙ append_assoc (row_of body) (rows_of bodies) rest in
     let behind = behind_row bytes body (rows_of bodies ++ rest) row in (
       (body, (rows_of bodies ++ rest, row), refl, refl, refl),
-      ap (λ (l : List ℕ). take (length body) (drop 5 l)) row ∙ take_at body (rows_of bodies ++ rest) (length body) refl,
+      ap (λ (l : List ℕ). take (length body) (drop 5 l)) row
+          ∙ take_at body (rows_of bodies ++ rest) (length body) refl,
       reads_as (at + 5 + length body) (drop (5 + length body) bytes) bodies (rest, behind, closed),
     )
 
-pub are_read : (at : ℕ) (bytes : List ℕ) (bodies : List (List ℕ)) → ReadsAs at bytes bodies → HasRows bytes bodies
+pub are_read : (at : ℕ) (bytes : List ℕ) (bodies : List (List ℕ)) → ReadsAs at bytes bodies
+    → HasRows bytes bodies
 are_read at bytes [] closed = (bytes, refl, closed)
 are_read at bytes (body ∷ bodies) (open_row, same, more) =
     let found = open_row.0 in
@@ -131,7 +157,8 @@ are_read at bytes (body ∷ bodies) (open_row, same, more) =
     let row : bytes ≡ row_of found ++ rest = open_row.1.1 in
     let size : length found ≡ length body = open_row.2 in
     let is : found ≡ body =
-    sym (ap (λ (l : List ℕ). take (length body) (drop 5 l)) row ∙ take_at found rest (length body) size) ∙ same in
+    sym (ap (λ (l : List ℕ). take (length body) (drop 5 l)) row
+    ∙ take_at found rest (length body) size) ∙ same in
     let row_is : bytes ≡ row_of body ++ rest = row ∙ ap (λ (l : List ℕ). row_of l ++ rest) is in
     let behind = behind_row bytes body rest row_is in
     read_from bytes body bodies (row_is ∙ ap (λ (l : List ℕ). row_of body ++ l) (sym behind))

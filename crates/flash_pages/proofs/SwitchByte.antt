@@ -7,7 +7,7 @@ use Rattle.std.proofs.lemmas.List.Sums.{sum_by-append, sum_by-drop_more}
 use Rattle.std.proofs.lemmas.Bool.{cases_lt, ne_eqb}
 use Rattle.flash_pages.specs.Bytes.{part, patch, DiffersIn}
 use Rattle.flash_pages.specs.Switch.{live_of, IsUsedTo, IsNextByte, SwitchesTo}
-use Rattle.flash_pages.proofs.Patches.{part-DiffersIn, drop-patch-front}
+use Rattle.flash_pages.proofs.Patches.{part-DiffersIn, drop-patch-prefix}
 
 abbrev opened : ℕ → ℕ
 opened byte = cond (byte == 0) 1 0
@@ -23,7 +23,8 @@ zeros-at : (row : List ℕ) (k : ℕ) → k < length row
     → zeros row ≡ zeros (take k row) + (opened (get_or row k 0) + zeros (drop (k + 1) row))
 zeros-at row k below =
     ap zeros (sym (take-append-drop k row)) ∙ zeros-append (take k row) (drop k row)
-    ∙ ap (λ (n : ℕ). zeros (take k row) + n) (sum_by-drop_more (λ (byte : ℕ). cond (byte == 0) 1 0) row k 0 below)
+    ∙ ap (λ (n : ℕ). zeros (take k row) + n)
+    (sum_by-drop_more (λ (byte : ℕ). cond (byte == 0) 1 0) row k 0 below)
 
 opened-zero : (byte : ℕ) → byte ≡ 0 → opened byte ≡ 1
 opened-zero byte is = ap opened is
@@ -31,7 +32,8 @@ opened-zero byte is = ap opened is
 opened-other : (byte : ℕ) → (byte ≡ 0 → ⊥) → opened byte ≡ 0
 opened-other byte other = ap (λ (b : Bool). cond b 1 0) (ne_eqb byte 0 other)
 
-module _ (row image : List ℕ) (next : ℕ) (is_next : IsNextByte row (Some next)) (differs : DiffersIn next 1 row image) where
+module _ (row image : List ℕ) (next : ℕ) (is_next : IsNextByte row (Some next))
+    (differs : DiffersIn next 1 row image) where
   below : next < length image
   below = omega (arith, is_next.0, differs.same_length)
 
@@ -43,7 +45,8 @@ module _ (row image : List ℕ) (next : ℕ) (is_next : IsNextByte row (Some nex
   behind_it : (k : ℕ) → next + 1 ≤ k → slice_index image k ≡ slice_index row k
   behind_it k more =
       let to : (next + 1) + (k - (next + 1)) ≡ k = omega arith in
-      ap (λ (j : ℕ). get_or image j 0) (sym to) ∙ sym (get_or-drop (next + 1) image (k - (next + 1)) 0)
+      ap (λ (j : ℕ). get_or image j 0) (sym to)
+      ∙ sym (get_or-drop (next + 1) image (k - (next + 1)) 0)
       ∙ ap (λ (l : List ℕ). get_or l (k - (next + 1)) 0) differs.after
       ∙ get_or-drop (next + 1) row (k - (next + 1)) 0 ∙ ap (λ (j : ℕ). get_or row j 0) to
 
@@ -56,15 +59,17 @@ module _ (row image : List ℕ) (next : ℕ) (is_next : IsNextByte row (Some nex
       let was = zeros-at row next is_next.0 in
       let now = zeros-at image next below in
       let none : opened (slice_index row next) ≡ 0 = ap opened erased in
-      let front : zeros (take next image) ≡ zeros (take next row) = ap zeros differs.before in
-      let back : zeros (drop (next + 1) image) ≡ zeros (drop (next + 1) row) = ap zeros differs.after in
-      omega (arith, was, now, none, front, back)
+      let prefix : zeros (take next image) ≡ zeros (take next row) = ap zeros differs.before in
+      let back : zeros (drop (next + 1) image) ≡ zeros (drop (next + 1) row) =
+      ap zeros differs.after in
+      omega (arith, was, now, none, prefix, back)
 
   rest_is : (k : ℕ) → next + 1 ≤ k → k < length image → slice_index image k ≡ 255
   rest_is k more less =
       behind_it k more ∙ is_next.1.rest k (omega arith) (omega (arith, less, differs.same_length))
 
-  unused_rest : slice_index image next ≡ 255 → (k : ℕ) → next ≤ k → k < length image → slice_index image k ≡ 255
+  unused_rest : slice_index image next ≡ 255 → (k : ℕ) → next ≤ k → k < length image
+      → slice_index image k ≡ 255
   unused_rest is k from less = elim (cases_lt next k) [
     | inl later ↦ rest_is k (omega arith) less
     | inr here ↦ let same : k ≡ next = omega arith in ap (slice_index image) same ∙ is
@@ -79,7 +84,8 @@ module _ (row image : List ℕ) (next : ℕ) (is_next : IsNextByte row (Some nex
 
   pub switches : SwitchesTo row image next
   switches = record {
-    flips = λ is. let one = opened-zero (slice_index image next) is in omega (arith, zeros-image, one);
+    flips = λ is. let one = opened-zero (slice_index image next) is
+        in omega (arith, zeros-image, one);
     stays = λ other. let none = opened-other (slice_index image next) other in
         let same : zeros image ≡ zeros row = omega (arith, zeros-image, none) in
         ap (λ (n : ℕ). n % 2) same;
@@ -97,13 +103,15 @@ module _ (row image : List ℕ) (next : ℕ) (is_next : IsNextByte row (Some nex
   }
 
 -- two places from which on all is FF, each behind a byte that isn't
-one_used : (row : List ℕ) (a b : ℕ) → a ≤ length row → b ≤ length row → IsUsedTo row a → IsUsedTo row b → a ≤ b
+one_used : (row : List ℕ) (a b : ℕ) → a ≤ length row → b ≤ length row → IsUsedTo row a
+    → IsUsedTo row b → a ≤ b
 one_used row a b fits_a fits_b first second = elim (cases_lt b a) [
   | inl less ↦ absurd (first.last (omega arith) (second.rest (a - 1) (omega arith) (omega arith)))
   | inr le ↦ le
 ]
 
-pub one_next_byte : (row : List ℕ) (first second : Option ℕ) → IsNextByte row first → IsNextByte row second
+pub one_next_byte : (row : List ℕ) (first second : Option ℕ) → IsNextByte row first
+    → IsNextByte row second
     → first ≡ second
 one_next_byte row (Some a) (Some b) p q =
     let same : a ≡ b =
@@ -114,28 +122,37 @@ one_next_byte row (Some a) (Some b) p q =
     ) in
     ap Some same
 one_next_byte row (Some a) None p q =
-    absurd (omega (arith, p.0, one_used row (length row) a (omega arith) (omega (arith, p.0)) q p.1))
+    absurd (omega
+    (arith, p.0, one_used row (length row) a (omega arith) (omega (arith, p.0)) q p.1))
 one_next_byte row None (Some b) p q =
-    absurd (omega (arith, q.0, one_used row (length row) b (omega arith) (omega (arith, q.0)) p q.1))
+    absurd (omega
+    (arith, q.0, one_used row (length row) b (omega arith) (omega (arith, q.0)) p q.1))
 one_next_byte row None None p q = refl
 
 -- the switch row in a block of the flash, where anything comes to stand at its next byte
-pub switches_in : (block next : ℕ) (before image : List ℕ) → IsNextByte (part (4096 * block) 4096 before) (Some next)
+pub switches_in : (block next : ℕ) (before image : List ℕ)
+    → IsNextByte (part (4096 * block) 4096 before) (Some next)
     → 4096 * block + 4096 ≤ length before → DiffersIn (4096 * block + next) 1 before image
     → SwitchesTo (part (4096 * block) 4096 before) (part (4096 * block) 4096 image) next
 switches_in block next before image is_next fits differs =
     let row = part (4096 * block) 4096 before in
     let size : length row ≡ 4096 =
-    length-take-le 4096 (drop (4096 * block) before) (omega (arith, length-drop (4096 * block) before)) in
+    length-take-le 4096 (drop (4096 * block) before)
+    (omega (arith, length-drop (4096 * block) before)) in
     switches row (part (4096 * block) 4096 image) next is_next
-    (part-DiffersIn (4096 * block) 4096 next 1 (omega (arith, is_next.0, size)) before image differs)
+    (part-DiffersIn (4096 * block) 4096 next 1
+    (omega (arith, is_next.0, size)) before image differs)
 
 -- after a program of 00 the byte reads so
-pub opened_in : (block next : ℕ) (before : List ℕ) → next < 4096 → 4096 * block + 4096 ≤ length before
+pub opened_in : (block next : ℕ) (before : List ℕ) → next < 4096
+    → 4096 * block + 4096 ≤ length before
     → slice_index (part (4096 * block) 4096 (patch before (4096 * block + next) (0 ∷ []))) next ≡ 0
 opened_in block next before within fits =
     let image = patch before (4096 * block + next) (0 ∷ []) in
     let here : (4096 * block + next) + 0 ≡ 4096 * block + next = omega arith in
-    get_or-take 4096 (drop (4096 * block) image) next 0 within ∙ get_or-drop (4096 * block) image next 0
-    ∙ sym (ap (λ (k : ℕ). get_or image k 0) here) ∙ sym (get_or-drop (4096 * block + next) image 0 0)
-    ∙ ap (λ (l : List ℕ). get_or l 0 0) (drop-patch-front before (4096 * block + next) (0 ∷ []) (omega arith))
+    get_or-take 4096 (drop (4096 * block) image) next 0 within
+    ∙ get_or-drop (4096 * block) image next 0
+    ∙ sym (ap (λ (k : ℕ). get_or image k 0) here)
+    ∙ sym (get_or-drop (4096 * block + next) image 0 0)
+    ∙ ap (λ (l : List ℕ). get_or l 0 0)
+    (drop-patch-prefix before (4096 * block + next) (0 ∷ []) (omega arith))

@@ -9,17 +9,20 @@ use Rattle.flash_pages.specs.Flash.{FlashState, IsFlash, IsSettled, MayLeaveOnly
 use Rattle.flash_pages.proofs.Touched.{at_some, from_each, known, is_known, known_before, known_after, same_some, GoesOn-refl, GoesOn-trans, LeavesOnly-trans, Touches-from_changes}
 
 -- what reads return is one of the contents that a restart may leave
-pub MayLeaveOnly-bytes : (blocks : ℕ) (s : FlashState) (P : List ℕ → Type 0) → IsFlash blocks s → MayLeaveOnly s P
+pub MayLeaveOnly-bytes : (blocks : ℕ) (s : FlashState) (P : List ℕ → Type 0) → IsFlash blocks s
+    → MayLeaveOnly s P
     → (bytes : List ℕ) → s.bytes ≡ Some bytes → P bytes
 MayLeaveOnly-bytes blocks s P lawful each bytes is =
     each (is_known s.bytes bytes is) bytes (at_some s.bytes s.may_leave bytes is lawful.may_stay)
 
 -- of a settled flash it is enough to know what reads return
-pub MayLeaveOnly-settled : (s : FlashState) (P : List ℕ → Type 0) → IsSettled s → IfSome s.bytes P → MayLeaveOnly s P
+pub MayLeaveOnly-settled : (s : FlashState) (P : List ℕ → Type 0) → IsSettled s → IfSome s.bytes P
+    → MayLeaveOnly s P
 MayLeaveOnly-settled s P settled here some content left =
     at_some s.bytes P content (settled some content left) here
 
-pub MayLeaveOnly-weaken : (s : FlashState) (P Q : List ℕ → Type 0) → ((content : List ℕ) → P content → Q content)
+pub MayLeaveOnly-weaken : (s : FlashState) (P Q : List ℕ → Type 0)
+    → ((content : List ℕ) → P content → Q content)
     → MayLeaveOnly s P → MayLeaveOnly s Q
 MayLeaveOnly-weaken s P Q then each some content left = then content (each some content left)
 
@@ -30,7 +33,8 @@ IsSettled-read a b reads settled some content left =
     reads.bytes ∙ settled before content ((reads.may_leave before content).0 left)
 
 -- a settled flash returns the same after a restart, whatever that answers
-pub restart_settled : {E : Type 0} (a b : FlashState) (result : Result Unit E) → Restarts a b result → IsSettled a
+pub restart_settled : {E : Type 0} (a b : FlashState) (result : Result Unit E) → Restarts a b result
+    → IsSettled a
     → b.bytes ≡ a.bytes
 restart_settled a b result restarts settled =
     same a.bytes b.bytes restarts.time.bytes_known (λ some content is. settled some content
@@ -44,7 +48,8 @@ restart_settled a b result restarts settled =
     same (Some x) (Some y) both each = sym (each refl y refl)
 
 -- before the first call
-pub Throughout-begin : (blocks : ℕ) (s : FlashState) (P : List ℕ → Type 0) → IsFlash blocks s → MayLeaveOnly s P
+pub Throughout-begin : (blocks : ℕ) (s : FlashState) (P : List ℕ → Type 0) → IsFlash blocks s
+    → MayLeaveOnly s P
     → Throughout P s s
 Throughout-begin blocks s P lawful each = record {
   time = GoesOn-refl s;
@@ -53,7 +58,8 @@ Throughout-begin blocks s P lawful each = record {
       MayLeaveOnly-bytes blocks s P lawful each image ((lawful.moments says).only_now image left);
 }
 
-pub Throughout-weaken : (a b : FlashState) (P Q : List ℕ → Type 0) → ((content : List ℕ) → P content → Q content)
+pub Throughout-weaken : (a b : FlashState) (P Q : List ℕ → Type 0)
+    → ((content : List ℕ) → P content → Q content)
     → Throughout P a b → Throughout Q a b
 Throughout-weaken a b P Q then each = record {
   time = each.time;
@@ -62,7 +68,8 @@ Throughout-weaken a b P Q then each = record {
 }
 
 -- one run of calls after another
-pub Throughout-trans : (blocks : ℕ) (a b c : FlashState) (P : List ℕ → Type 0) → IsFlash blocks c → Throughout P a b
+pub Throughout-trans : (blocks : ℕ) (a b c : FlashState) (P : List ℕ → Type 0) → IsFlash blocks c
+    → Throughout P a b
     → Throughout P b c → Throughout P a c
 Throughout-trans blocks a b c P lawful first second = record {
   time = GoesOn-trans blocks a b c lawful first.time second.time;
@@ -70,7 +77,8 @@ Throughout-trans blocks a b c P lawful first second = record {
   images = LeavesOnly-trans a b c P first.time second.time first.images second.images;
 }
 
-module _ (blocks : ℕ) (a b c : FlashState) (P : List ℕ → Type 0) (was : IsFlash blocks b) (lawful : IsFlash blocks c)
+module _ (blocks : ℕ) (a b c : FlashState) (P : List ℕ → Type 0) (was : IsFlash blocks b)
+    (lawful : IsFlash blocks c)
     (before : Throughout P a b) where
   -- P of what reads return
   pub Throughout-bytes : (bytes : List ℕ) → b.bytes ≡ Some bytes → P bytes
@@ -88,7 +96,8 @@ module _ (blocks : ℕ) (a b c : FlashState) (P : List ℕ → Type 0) (was : Is
       })
 
   -- over calls that add contents of which each has P
-  adds : GoesOn b c → IfSome b.bytes (λ bytes. AddsOnly b c P) → IfSome b.bytes (λ bytes. LeavesOnly b c P)
+  adds : GoesOn b c → IfSome b.bytes (λ bytes. AddsOnly b c P)
+      → IfSome b.bytes (λ bytes. LeavesOnly b c P)
       → Throughout P a c
   adds time may_leave images =
       Throughout-trans blocks a b c P lawful before (record {
@@ -105,31 +114,38 @@ module _ (blocks : ℕ) (a b c : FlashState) (P : List ℕ → Type 0) (was : Is
 
   -- over calls that touch a range alone, where P outlives any bytes there
   pub Throughout-touch : (at n : ℕ) → Touches at n b c
-      → ((bytes content : List ℕ) → b.bytes ≡ Some bytes → P bytes → DiffersIn at n bytes content → P content)
+      → ((bytes content : List ℕ) → b.bytes ≡ Some bytes → P bytes → DiffersIn at n bytes content
+      → P content)
       → Throughout P a c
   Throughout-touch at n touches outlives =
       adds touches.time
       (from_each b.bytes _ (λ bytes is some content left. ⊎_elim (λ old. inl old)
       (λ differs. inr (outlives bytes content is (Throughout-bytes bytes is) differs))
-      (at_some b.bytes (λ x. AddsOnly b c (DiffersIn at n x)) bytes is touches.may_leave some content left)))
+      (at_some b.bytes
+      (λ x. AddsOnly b c (DiffersIn at n x)) bytes is touches.may_leave some content left)))
       (from_each b.bytes _ (λ bytes is says image left.
       outlives bytes image is (Throughout-bytes bytes is)
-      (at_some b.bytes (λ x. LeavesOnly b c (DiffersIn at n x)) bytes is touches.images says image left)))
+      (at_some b.bytes
+      (λ x. LeavesOnly b c (DiffersIn at n x)) bytes is touches.images says image left)))
 
   -- over a program or an erase
-  pub Throughout-change : {E : Type 0} (at : ℕ) (bytes : List ℕ) (result : Result Unit E) → Changes at bytes b c result
-      → ((held content : List ℕ) → b.bytes ≡ Some held → P held → DiffersIn at (length bytes) held content → P content)
+  pub Throughout-change : {E : Type 0} (at : ℕ) (bytes : List ℕ) (result : Result Unit E)
+      → Changes at bytes b c result
+      → ((held content : List ℕ) → b.bytes ≡ Some held → P held
+      → DiffersIn at (length bytes) held content → P content)
       → Throughout P a c
   Throughout-change at bytes result changes outlives =
       Throughout-touch at (length bytes) (Touches-from_changes at bytes b c result changes) outlives
 
   -- over a restart
-  pub Throughout-restart : {E : Type 0} (result : Result Unit E) → Restarts b c result → Throughout P a c
+  pub Throughout-restart : {E : Type 0} (result : Result Unit E) → Restarts b c result
+      → Throughout P a c
   Throughout-restart result restarts =
       Throughout-trans blocks a b c P lawful before (record {
         time = restarts.time;
         may_leave = λ some content left.
-            before.may_leave (restarts.time.bytes_known.1 some) content (restarts.may_leave some content left);
+            before.may_leave (restarts.time.bytes_known.1 some) content
+            (restarts.may_leave some content left);
         images = λ says image left.
             let then : IsSome b.bytes = was.bytes_known (restarts.time.images_known says) in
             before.may_leave then image ((restarts.images says image).0 left);
@@ -137,21 +153,28 @@ module _ (blocks : ℕ) (a b c : FlashState) (P : List ℕ → Type 0) (was : Is
 
   -- over an append, where P outlives a torn row
   pub Throughout-append : (at : ℕ) (body : List ℕ) → GoesOn b c → LeavesTornRow at body b c
-      → ((bytes content : List ℕ) → b.bytes ≡ Some bytes → P bytes → IsTornRow at body bytes content → P content)
+      → ((bytes content : List ℕ) → b.bytes ≡ Some bytes → P bytes → IsTornRow at body bytes content
+      → P content)
       → Throughout P a c
   Throughout-append at body time torn outlives =
       adds time
       (from_each b.bytes _ (λ bytes is some content left. ⊎_elim (λ old. inl old)
       (λ differs. inr (outlives bytes content is (Throughout-bytes bytes is) differs))
-      (at_some b.bytes (λ x. AddsOnly b c (IsTornRow at body x)) bytes is torn.may_leave some content left)))
+      (at_some b.bytes
+      (λ x. AddsOnly b c (IsTornRow at body x)) bytes is torn.may_leave some content left)))
       (from_each b.bytes _ (λ bytes is says image left.
       outlives bytes image is (Throughout-bytes bytes is)
-      (at_some b.bytes (λ x. LeavesOnly b c (IsTornRow at body x)) bytes is torn.images says image left)))
+      (at_some b.bytes
+      (λ x. LeavesOnly b c (IsTornRow at body x)) bytes is torn.images says image left)))
 
-  -- over an append to a bank of which the open rows are known, where P outlives any row there that the bank keeps
-  pub Throughout-row : {T E : Type 0} (bank : Bank) (at : ℕ) (bodies : List (List ℕ)) (body : List ℕ)
-      (result : Result T E) → Touches at (5 + length body) b c → KeepsRows bank bodies body b c result
-      → ((bytes content : List ℕ) → b.bytes ≡ Some bytes → P bytes → DiffersIn at (5 + length body) bytes content
+  -- over an append to a bank of which the open rows are known, where P outlives any row there that
+  -- the bank keeps
+  pub Throughout-row : {T E : Type 0} (bank : Bank) (at : ℕ) (bodies : List (List ℕ))
+      (body : List ℕ)
+      (result : Result T E) → Touches at (5 + length body) b c
+      → KeepsRows bank bodies body b c result
+      → ((bytes content : List ℕ) → b.bytes ≡ Some bytes → P bytes
+      → DiffersIn at (5 + length body) bytes content
       → HasRowsOrOneMore (bank_bytes bank content) bodies body → P content)
       → Throughout P a c
   Throughout-row bank at bodies body result touches keeps outlives =
@@ -160,7 +183,8 @@ module _ (blocks : ℕ) (a b c : FlashState) (P : List ℕ → Type 0) (was : Is
       (λ differs. ⊎_elim (λ old. inl old)
       (λ rows. inr (outlives bytes content is (Throughout-bytes bytes is) differs rows))
       (keeps.may_leave some content left))
-      (at_some b.bytes (λ x. AddsOnly b c (Differs x)) bytes is touches.may_leave some content left)))
+      (at_some b.bytes
+      (λ x. AddsOnly b c (Differs x)) bytes is touches.may_leave some content left)))
       (from_each b.bytes _ (λ bytes is says image left.
       outlives bytes image is (Throughout-bytes bytes is)
       (at_some b.bytes (λ x. LeavesOnly b c (Differs x)) bytes is touches.images says image left)

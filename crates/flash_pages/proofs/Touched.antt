@@ -9,7 +9,8 @@ use Rattle.flash_pages.proofs.Patches.{DiffersIn-refl, DiffersIn-trans, DiffersI
 pub at_some : {T : Type 0} (o : Option T) (P : T → Type 0) (x : T) → o ≡ Some x → IfSome o P → P x
 at_some {T} o P x is holds = let Q : Option T → Type 0 = λ r. IfSome r P in subst Q is holds
 
-pub from_each : {T : Type 0} (o : Option T) (P : T → Type 0) → ((x : T) → o ≡ Some x → P x) → IfSome o P
+pub from_each : {T : Type 0} (o : Option T) (P : T → Type 0) → ((x : T) → o ≡ Some x → P x)
+    → IfSome o P
 from_each None P each = tt
 from_each (Some x) P each = each x refl
 
@@ -25,10 +26,12 @@ pub same_some : (x y : List ℕ) → Some x ≡ Some y → x ≡ y
 same_some x y is = cc
 
 -- what reads return has the flash's length
-pub flash_size : (blocks : ℕ) (s : FlashState) → IsFlash blocks s → (bytes : List ℕ) → s.bytes ≡ Some bytes
+pub flash_size : (blocks : ℕ) (s : FlashState) → IsFlash blocks s → (bytes : List ℕ)
+    → s.bytes ≡ Some bytes
     → length bytes ≡ block_len * blocks
 flash_size blocks s lawful bytes is =
-    lawful.sizes (is_known s.bytes bytes is) bytes (at_some s.bytes s.may_leave bytes is lawful.may_stay)
+    lawful.sizes (is_known s.bytes bytes is) bytes
+    (at_some s.bytes s.may_leave bytes is lawful.may_stay)
 
 -- before the first call
 pub GoesOn-refl : (s : FlashState) → GoesOn s s
@@ -43,7 +46,8 @@ GoesOn-refl s = record {
 }
 
 -- one call after another
-pub GoesOn-trans : (blocks : ℕ) (a b c : FlashState) → IsFlash blocks c → GoesOn a b → GoesOn b c → GoesOn a c
+pub GoesOn-trans : (blocks : ℕ) (a b c : FlashState) → IsFlash blocks c → GoesOn a b → GoesOn b c
+    → GoesOn a c
 GoesOn-trans blocks a b c lawful p q = record {
   later = omega (arith, p.later, q.later);
   bytes_known = (
@@ -57,7 +61,8 @@ GoesOn-trans blocks a b c lawful p q = record {
   faults = omega (arith, p.faults, q.faults);
 }
   where
-    keeps : IsTrue c.images_known → (t : ℕ) (image : List ℕ) → t ≤ a.moment → a.images t image → c.images t image
+    keeps : IsTrue c.images_known → (t : ℕ) (image : List ℕ) → t ≤ a.moment → a.images t image
+        → c.images t image
     keeps says t image le left =
         (q.images says).keeps t image (omega (arith, le, p.later))
         ((p.images (q.images_known says)).keeps t image le left)
@@ -90,13 +95,16 @@ LeavesOnly-trans a b c P p q first second says image left =
     ((q.images says).adds a.moment image p.later left)
 
 -- P holds of each content that a restart may leave after two calls and might not before
-pub AddsOnly-trans : (a b c : FlashState) (P : List ℕ → Type 0) → GoesOn b c → AddsOnly a b P → AddsOnly b c P
+pub AddsOnly-trans : (a b c : FlashState) (P : List ℕ → Type 0) → GoesOn b c → AddsOnly a b P
+    → AddsOnly b c P
     → AddsOnly a c P
 AddsOnly-trans a b c P q first second some content left =
-    ⊎_elim (λ was. first (q.bytes_known.1 some) content was) (λ new. inr new) (second some content left)
+    ⊎_elim (λ was. first (q.bytes_known.1 some) content was) (λ new. inr new)
+    (second some content left)
 
 -- the same of what has P in another way
-pub AddsOnly-weaken : (a b : FlashState) (P Q : List ℕ → Type 0) → ((content : List ℕ) → P content → Q content)
+pub AddsOnly-weaken : (a b : FlashState) (P Q : List ℕ → Type 0)
+    → ((content : List ℕ) → P content → Q content)
     → AddsOnly a b P → AddsOnly a b Q
 AddsOnly-weaken a b P Q then adds some content left =
     ⊎_elim (λ was. inl was) (λ new. inr (then content new)) (adds some content left)
@@ -104,10 +112,12 @@ AddsOnly-weaken a b P Q then adds some content left =
 pub Touches-refl : (blocks at n : ℕ) (s : FlashState) → IsFlash blocks s → Touches at n s s
 Touches-refl blocks at n s lawful = record {
   time = GoesOn-refl s;
-  bytes = from_each s.bytes _ (λ before is. from_each s.bytes _ (λ now is_now. same before now (sym is ∙ is_now)));
+  bytes = from_each s.bytes _
+      (λ before is. from_each s.bytes _ (λ now is_now. same before now (sym is ∙ is_now)));
   may_leave = from_each s.bytes _ (λ before is some content left. inl left);
   images = from_each s.bytes _
-      (λ before is says image left. same before image (sym is ∙ (lawful.moments says).only_now image left));
+      (λ before is says image left. same before image
+      (sym is ∙ (lawful.moments says).only_now image left));
 }
   where
     same : (before now : List ℕ) → Some before ≡ Some now → DiffersIn at n before now
@@ -115,22 +125,26 @@ Touches-refl blocks at n s lawful = record {
         let equal : before ≡ now = cc in
         subst (DiffersIn at n before) equal (DiffersIn-refl at n before)
 
-pub Touches-wider : (at n at' n' : ℕ) (a b : FlashState) → at' ≤ at → at + n ≤ at' + n' → Touches at n a b
+pub Touches-wider : (at n at' n' : ℕ) (a b : FlashState) → at' ≤ at → at + n ≤ at' + n'
+    → Touches at n a b
     → Touches at' n' a b
 Touches-wider at n at' n' a b below above p = record {
   time = p.time;
   bytes = from_each a.bytes _ (λ before is. from_each b.bytes _
-      (λ now is_now. wider before now (at_some b.bytes _ now is_now (at_some a.bytes _ before is p.bytes))));
+      (λ now is_now. wider before now
+      (at_some b.bytes _ now is_now (at_some a.bytes _ before is p.bytes))));
   may_leave = from_each a.bytes _ (λ before is. AddsOnly-weaken a b _ _ (wider before)
       (at_some a.bytes (λ x. AddsOnly a b (DiffersIn at n x)) before is p.may_leave));
   images = from_each a.bytes _ (λ before is says image left. wider before image
-      (at_some a.bytes (λ x. LeavesOnly a b (DiffersIn at n x)) before is p.images says image left));
+      (at_some a.bytes
+      (λ x. LeavesOnly a b (DiffersIn at n x)) before is p.images says image left));
 }
   where
     wider : (before image : List ℕ) → DiffersIn at n before image → DiffersIn at' n' before image
     wider before image differs = DiffersIn-wider at n at' n' before image below above differs
 
-pub Touches-from_changes : {E : Type 0} (at : ℕ) (bytes : List ℕ) (a b : FlashState) (result : Result Unit E)
+pub Touches-from_changes : {E : Type 0} (at : ℕ) (bytes : List ℕ) (a b : FlashState)
+    (result : Result Unit E)
     → Changes at bytes a b result → Touches at (length bytes) a b
 Touches-from_changes at bytes a b result p = record {
   time = p.time;
@@ -140,7 +154,8 @@ Touches-from_changes at bytes a b result p = record {
       (λ before is says image left. (at_some a.bytes _ before is p.images says image).0 left);
 }
 
-pub Touches-trans : (blocks at n : ℕ) (a b c : FlashState) → IsFlash blocks c → Touches at n a b → Touches at n b c
+pub Touches-trans : (blocks at n : ℕ) (a b c : FlashState) → IsFlash blocks c → Touches at n a b
+    → Touches at n b c
     → Touches at n a c
 Touches-trans blocks at n a b c lawful p q = record {
   time = GoesOn-trans blocks a b c lawful p.time q.time;
@@ -168,7 +183,8 @@ Touches-trans blocks at n a b c lawful p q = record {
   where
     between : (before : List ℕ) → a.bytes ≡ Some before → (mid : List ℕ) → b.bytes ≡ Some mid
         → DiffersIn at n before mid
-    between before is mid is_mid = at_some b.bytes _ mid is_mid (at_some a.bytes _ before is p.bytes)
+    between before is mid is_mid =
+        at_some b.bytes _ mid is_mid (at_some a.bytes _ before is p.bytes)
 
     further : (before : List ℕ) → a.bytes ≡ Some before → (mid : List ℕ) → b.bytes ≡ Some mid
         → (image : List ℕ) → DiffersIn at n mid image → DiffersIn at n before image

@@ -10,6 +10,10 @@ blank n = replicate n 255
 abbrev pub part : ℕ → ℕ → List ℕ → List ℕ
 part at n bytes = take n (drop at bytes)
 
+-- they are all FF
+abbrev pub IsErased : ℕ → ℕ → List ℕ → Type 0
+IsErased at n bytes = part at n bytes ≡ blank n
+
 -- old with these bytes at this place
 abbrev pub patch : List ℕ → ℕ → List ℕ → List ℕ
 patch old at bytes = take at old ++ bytes ++ drop (at + length bytes) old
@@ -30,4 +34,5 @@ repeated torn n = map (torn_byte torn) (range_with_len 0 n)
 -- a part outside the range in which two lists differ is the same in both
 abbrev pub PartsOutsideStay : Type 0
 PartsOutsideStay = (at n : ℕ) (old new : List ℕ) → DiffersIn at n old new
-    → (place len : ℕ) → (place + len ≤ at) ⊎ (at + n ≤ place) → part place len new ≡ part place len old
+    → (place len : ℕ) → (place + len ≤ at) ⊎ (at + n ≤ place)
+    → part place len new ≡ part place len old

@@ -1,7 +1,7 @@
 -- What contracts see of a flash, and what each of its calls does to that.
 --
--- Moments are numbers. Between two calls there is one image, which is what reads return. Inside a call there is each
--- image that a power cut at that moment may leave.
+-- Moments are numbers. Between two calls there is one image, which is what reads return. Inside a
+-- call there is each image that a power cut at that moment may leave.
 use Rattle.std.specs.Prelude.{◌≡◌, ◌⊎◌, ◌↔◌, ℕ, ◌+◌, ◌*◌, ◌%◌, ◌<◌, ◌≤◌, Bool, IsTrue, List, length, Option, Some, IsSome, IfSome, Result, is_ok}
 use Rattle.port_io.specs.Faults.{NeverFalls}
 use Rattle.port_io.specs.declared.source.Failed.{Failed}
@@ -15,7 +15,8 @@ block_len = 4096
 abbrev pub piece_len : ℕ
 piece_len = 256
 
--- how many blocks the card's flash has; the words below take the number as an argument, since other flashes have more
+-- how many blocks the card's flash has; the words below take the number as an argument, since other
+-- flashes have more
 abbrev pub card_blocks : ℕ
 card_blocks = 2433
 
@@ -43,14 +44,16 @@ IsSettled flash = MayLeaveOnly flash (λ content. flash.bytes ≡ Some content)
 
 pub record HasMoments (flash : FlashState) : Type 0 where
   -- what reads return is the image of this moment, which is one of those since an earlier one
-  pub now : (t : ℕ) (image : List ℕ) → t ≤ flash.moment → flash.bytes ≡ Some image → flash.images t image
+  pub now : (t : ℕ) (image : List ℕ) → t ≤ flash.moment → flash.bytes ≡ Some image
+      → flash.images t image
   -- since this moment there is no other
   pub only_now : (image : List ℕ) → flash.images flash.moment image → flash.bytes ≡ Some image
   pub earlier : (t u : ℕ) (image : List ℕ) → t ≤ u → flash.images u image → flash.images t image
 
 -- what holds of every flash of so many blocks
 pub record IsFlash (blocks : ℕ) (flash : FlashState) : Type 0 where
-  -- what reads return is one of the contents that a restart may leave, and each of these has the flash's length
+  -- what reads return is one of the contents that a restart may leave, and each of these has the
+  -- flash's length
   pub may_stay : IfSome flash.bytes flash.may_leave
   pub sizes : MayLeaveOnly flash (λ content. length content ≡ block_len * blocks)
   -- where the images are known, so is what reads return
@@ -69,7 +72,8 @@ pub record IsFresh (held : List ℕ) (flash : FlashState) : Type 0 where
 -- the images of before are as they were
 pub record KeepsImages (old new : FlashState) : Type 0 where
   pub keeps : (t : ℕ) (image : List ℕ) → t ≤ old.moment → old.images t image → new.images t image
-  pub adds : (t : ℕ) (image : List ℕ) → t ≤ old.moment → new.images t image → old.images t image ⊎ new.images old.moment image
+  pub adds : (t : ℕ) (image : List ℕ) → t ≤ old.moment → new.images t image
+      → old.images t image ⊎ new.images old.moment image
 
 -- The flash has gone on.
 pub record GoesOn (old new : FlashState) : Type 0 where
@@ -84,11 +88,13 @@ pub record GoesOn (old new : FlashState) : Type 0 where
 
 -- the images since old are these and no others
 abbrev pub HasImages : FlashState → FlashState → (List ℕ → Type 0) → Type 0
-HasImages old new P = IsTrue new.images_known → (image : List ℕ) → new.images old.moment image ↔ P image
+HasImages old new P =
+    IsTrue new.images_known → (image : List ℕ) → new.images old.moment image ↔ P image
 
 -- each image since old has P
 abbrev pub LeavesOnly : FlashState → FlashState → (List ℕ → Type 0) → Type 0
-LeavesOnly old new P = IsTrue new.images_known → (image : List ℕ) → new.images old.moment image → P image
+LeavesOnly old new P =
+    IsTrue new.images_known → (image : List ℕ) → new.images old.moment image → P image
 
 -- each content that a restart may now leave, and might not before, has P
 abbrev pub AddsOnly : FlashState → FlashState → (List ℕ → Type 0) → Type 0
@@ -109,23 +115,26 @@ pub record IsPiece (blocks at n : ℕ) : Type 0 where
 pub record Reads (old new : FlashState) : Type 0 where
   pub time : GoesOn old new
   pub bytes : new.bytes ≡ old.bytes
-  pub may_leave : IsSome old.bytes → (content : List ℕ) → new.may_leave content ↔ old.may_leave content
+  pub may_leave : IsSome old.bytes → (content : List ℕ)
+      → new.may_leave content ↔ old.may_leave content
   pub images : HasImages old new (λ image. old.bytes ≡ Some image)
   pub programmed : new.programmed ≡ old.programmed
   pub erased : new.erased ≡ old.erased
 
--- A program or an erase of the range that these bytes fill. A cut inside it leaves any bytes there, and so does a
--- failure. After Ok these bytes stand there, and a restart leaves them.
-pub record Changes {E : Type 0} (at : ℕ) (bytes : List ℕ) (old new : FlashState) (result : Result Unit E) : Type 0 where
+-- A program or an erase of the range that these bytes fill. A cut inside it leaves any bytes there,
+-- and so does a failure. After Ok these bytes stand there, and a restart leaves them.
+pub record Changes {E : Type 0} (at : ℕ) (bytes : List ℕ) (old new : FlashState)
+    (result : Result Unit E) : Type 0 where
   pub time : GoesOn old new
-  pub done : IsTrue (is_ok result) → IfSome old.bytes (λ before. new.bytes ≡ Some (patch before at bytes))
+  pub done : IsTrue (is_ok result)
+      → IfSome old.bytes (λ before. new.bytes ≡ Some (patch before at bytes))
   pub settled : IsTrue (is_ok result) → IsSettled new
   pub torn : IfSome old.bytes (λ before. IfSome new.bytes (DiffersIn at (length bytes) before))
   pub may_leave : IfSome old.bytes (λ before. AddsOnly old new (DiffersIn at (length bytes) before))
   pub images : IfSome old.bytes (λ before. HasImages old new (DiffersIn at (length bytes) before))
 
--- Power on again. Whatever it answers, it leaves one of the contents that it might, and inside the call there are all
--- of these. After Ok what is left lasts.
+-- Power on again. Whatever it answers, it leaves one of the contents that it might, and inside the
+-- call there are all of these. After Ok what is left lasts.
 pub record Restarts {E : Type 0} (old new : FlashState) (result : Result Unit E) : Type 0 where
   pub time : GoesOn old new
   pub bytes : IfSome new.bytes old.may_leave
@@ -137,18 +146,19 @@ pub record Restarts {E : Type 0} (old new : FlashState) (result : Result Unit E)
 
 -- a settled flash returns the same after a restart, whatever that answers
 abbrev pub SettledStays : FlashState → FlashState → Type 0
-SettledStays old new = (result : Result Unit Failed) → Restarts old new result → IsSettled old → new.bytes ≡ old.bytes
+SettledStays old new =
+    (result : Result Unit Failed) → Restarts old new result → IsSettled old → new.bytes ≡ old.bytes
 
--- Several calls that touch this range alone: at each moment since old, and whatever a restart leaves that it might not
--- have left before, all outside the range is as it was.
+-- Several calls that touch this range alone: at each moment since old, and whatever a restart
+-- leaves that it might not have left before, all outside the range is as it was.
 pub record Touches (at n : ℕ) (old new : FlashState) : Type 0 where
   pub time : GoesOn old new
   pub bytes : IfSome old.bytes (λ before. IfSome new.bytes (DiffersIn at n before))
   pub may_leave : IfSome old.bytes (λ before. AddsOnly old new (DiffersIn at n before))
   pub images : IfSome old.bytes (λ before. LeavesOnly old new (DiffersIn at n before))
 
--- Through any calls since old each content of the flash has P: each image since then, and each content that a restart
--- may leave, of which what reads return is one.
+-- Through any calls since old each content of the flash has P: each image since then, and each
+-- content that a restart may leave, of which what reads return is one.
 pub record Throughout (P : List ℕ → Type 0) (old new : FlashState) : Type 0 where
   pub time : GoesOn old new
   pub may_leave : MayLeaveOnly new P

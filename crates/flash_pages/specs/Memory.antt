@@ -6,7 +6,9 @@ use Rattle.flash_pages.specs.Past.{last_ok, memory_state}
 use Rattle.flash_pages.specs.Plan.{Plan}
 
 abbrev pub state_of : MemoryFlash → FlashState
-state_of flash = memory_state flash.history.past flash.bytes.items flash.programmed flash.erased flash.power.faults
+state_of flash =
+    memory_state flash.history.past flash.bytes.items flash.programmed flash.erased
+    flash.power.faults
 
 -- which calls fail, and how many there were
 abbrev pub plan_of : MemoryFlash → Plan
@@ -27,8 +29,9 @@ room_of flash = flash.history.past.room
 abbrev pub last_ok_of : MemoryFlash → ℕ
 last_ok_of flash = last_ok flash.history.past.calls
 
--- A restart may leave just the images since this moment, as long as they are known, and from then on just what reads
--- return.
+-- A restart may leave just the images since this moment, as long as they are known, and from then
+-- on just what reads return.
 pub record LeavesImagesSince (t : ℕ) (flash : FlashState) : Type 0 where
-  pub in_room : IsTrue flash.images_known → (content : List ℕ) → flash.may_leave content ↔ flash.images t content
+  pub in_room : IsTrue flash.images_known → (content : List ℕ)
+      → flash.may_leave content ↔ flash.images t content
   pub past_room : flash.images_known ≡ false → IsSettled flash

@@ -4,7 +4,8 @@ use Rattle.flash_pages.specs.Bytes.{patch, DiffersIn}
 use Rattle.flash_pages.specs.Flash.{FlashState}
 
 pub data Call : Type 0 where
-  -- a program or an erase of n bytes: what it left there, or none where it did nothing, and whether it answered Ok
+  -- a program or an erase of n bytes: what it left there, or none where it did nothing, and whether
+  -- it answered Ok
   Write : (at n : ℕ) (left : Option (List ℕ)) (ok : Bool) → Call
   Restarted : Call
 
@@ -21,13 +22,15 @@ last_ok [] = 0
 last_ok (Write at n left ok ∷ calls) = if ok then suc (length calls) else last_ok calls
 last_ok (Restarted ∷ calls) = suc (length calls)
 
--- The images of all moments from t on: at each, what reads then return; inside a program or an erase, what differs
--- from that in its range alone; inside a restart, the images since the last Ok before it.
+-- The images of all moments from t on: at each, what reads then return; inside a program or an
+-- erase, what differs from that in its range alone; inside a restart, the images since the last Ok
+-- before it.
 abbrev pub Since : List ℕ → List Call → ℕ → List ℕ → Type 0
 Since first [] t image = image ≡ first
 Since first (Write at n left ok ∷ calls) t image =
     (image ≡ content first (Write at n left ok ∷ calls))
-    ⊎ ((t ≤ length calls) × (Since first calls t image ⊎ DiffersIn at n (content first calls) image))
+    ⊎ ((t ≤ length calls) ×
+    (Since first calls t image ⊎ DiffersIn at n (content first calls) image))
 Since first (Restarted ∷ calls) t image =
     (image ≡ content first calls)
     ⊎ ((t ≤ length calls) × (Since first calls t image ⊎ Since first calls (last_ok calls) image))
@@ -46,10 +49,12 @@ after_call past call =
     then record past { calls = call ∷ past.calls }
     else record past { known = false }
 
--- what a restart may leave: what reads return, and the images since the last Ok as long as the calls are known
+-- what a restart may leave: what reads return, and the images since the last Ok as long as the
+-- calls are known
 abbrev pub MayLeave : Past → List ℕ → List ℕ → Type 0
 MayLeave past bytes content =
-    (content ≡ bytes) ⊎ (IsTrue past.known × Since past.first past.calls (last_ok past.calls) content)
+    (content ≡ bytes) ⊎
+    (IsTrue past.known × Since past.first past.calls (last_ok past.calls) content)
 
 -- what contracts see of a flash in memory
 abbrev pub memory_state : Past → List ℕ → ℕ → ℕ → ℕ → FlashState

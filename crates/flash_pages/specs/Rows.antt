@@ -1,5 +1,5 @@
--- Rows: a gate, four bytes of length, and a body. A row is open where its gate is 00, and the rows of a bank end at
--- the first gate that isn't.
+-- Rows: a gate, four bytes of length, and a body. A row is open where its gate is 00, and the rows
+-- of a bank end at the first gate that isn't.
 use Rattle.std.specs.Prelude.{◌≡◌, ◌≢◌, ◌↔◌, ℕ, ◌+◌, ◌^◌, ◌<◌, ◌≤◌, ⊤, List, [], ◌∷◌, ◌++◌, length, take, drop}
 use Rattle.std.specs.Int.{to_be_bytes, w32}
 use Rattle.flash_pages.specs.declared.row.RowAt.{RowAt}
@@ -29,7 +29,9 @@ HasRows bytes bodies = (rest : List ℕ) × (bytes ≡ rows_of bodies ++ rest) �
 
 -- a bank has no two lists of open rows
 abbrev pub HasOneListOfRows : Type 0
-HasOneListOfRows = (bytes : List ℕ) (first second : List (List ℕ)) → length bytes < 2 ^ 32 → HasRows bytes first → HasRows bytes second → first ≡ second
+HasOneListOfRows =
+    (bytes : List ℕ) (first second : List (List ℕ)) → length bytes < 2 ^ 32 → HasRows bytes first
+    → HasRows bytes second → first ≡ second
 
 -- an open row with this body stands first
 abbrev pub BeginsWithRow : List ℕ → List ℕ → Type 0
@@ -39,8 +41,10 @@ BeginsWithRow bytes body = (rest : List ℕ) × (bytes ≡ row_of body ++ rest)
 abbrev pub RowIs : ℕ → List ℕ → RowAt → Type 0
 RowIs at bytes End = IsClosed bytes
 RowIs at bytes (Open place len next) =
-    (body : List ℕ) × BeginsWithRow bytes body × (length body ≡ len) × (place ≡ at + 5) × (next ≡ place + len)
-RowIs at bytes Overrun = (IsClosed bytes → ⊥) × ((body : List ℕ) → length body < 2 ^ 32 → BeginsWithRow bytes body → ⊥)
+    (body : List ℕ) × BeginsWithRow bytes body × (length body ≡ len) × (place ≡ at + 5) ×
+    (next ≡ place + len)
+RowIs at bytes Overrun =
+    (IsClosed bytes → ⊥) × ((body : List ℕ) → length body < 2 ^ 32 → BeginsWithRow bytes body → ⊥)
 
 -- an open row ends no later than the bank
 abbrev pub LiesBefore : ℕ → ℕ → RowAt → Type 0
@@ -53,7 +57,8 @@ pub record RowsUpTo (bytes : List ℕ) (bodies : List (List ℕ)) (place : ℕ) 
   pub end : place ≡ length (rows_of bodies)
   pub rows : take place bytes ≡ rows_of bodies
 
--- what is read one row after another from place `at` on: open rows with these bodies, and then an end
+-- what is read one row after another from place `at` on: open rows with these bodies, and then an
+-- end
 abbrev pub ReadsAs : ℕ → List ℕ → List (List ℕ) → Type 0
 ReadsAs at bytes [] = RowIs at bytes End
 ReadsAs at bytes (body ∷ bodies) =
@@ -63,9 +68,12 @@ ReadsAs at bytes (body ∷ bodies) =
 
 -- rows read one after another up to an end are the open rows, from whatever place they are counted
 abbrev pub RowsAreThoseRead : Type 0
-RowsAreThoseRead = (at : ℕ) (bytes : List ℕ) (bodies : List (List ℕ)) → HasRows bytes bodies ↔ ReadsAs at bytes bodies
+RowsAreThoseRead =
+    (at : ℕ) (bytes : List ℕ) (bodies : List (List ℕ))
+    → HasRows bytes bodies ↔ ReadsAs at bytes bodies
 
 -- where an open row is met that doesn't lie in the bank, the bank has no list of open rows
 abbrev pub OverrunHasNoRows : Type 0
-OverrunHasNoRows = (at place : ℕ) (bytes : List ℕ) (before bodies : List (List ℕ)) → length bytes < 2 ^ 32
+OverrunHasNoRows =
+    (at place : ℕ) (bytes : List ℕ) (before bodies : List (List ℕ)) → length bytes < 2 ^ 32
     → RowsUpTo bytes before place → RowIs at (drop place bytes) Overrun → HasRows bytes bodies → ⊥

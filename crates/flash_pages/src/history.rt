@@ -17,8 +17,8 @@ pub(crate) enum Kept {
     Restart,
 }
 
-/// The bytes that a flash in memory was made with, unless it was made blank, and its calls, as long as there is room
-/// for them.
+/// The bytes that a flash in memory was made with, unless it was made blank, and its calls, as long
+/// as there is room for them.
 #[derive(Drop)]
 pub(crate) struct CallRecord {
     first: Option<Vec<u8>>,

@@ -12,14 +12,15 @@ pub fn rows_are_unique()
     ensures { HasOneListOfRows }
 {}
 
-/// That rows read one after another up to an end are the open rows, and that a bank in which a row overruns has none.
+/// That rows read one after another up to an end are the open rows, and that a bank in which a row
+/// overruns has none.
 pub fn rows_are_those_read()
     ensures read { RowsAreThoseRead }
     ensures overrun { OverrunHasNoRows }
 {}
 
-/// That a byte programmed at the next place of a switch row makes the other bank live exactly where it reads 00, and
-/// which byte is the next one then.
+/// That a byte programmed at the next place of a switch row makes the other bank live exactly where
+/// it reads 00, and which byte is the next one then.
 pub fn next_byte_switches()
     ensures one { HasOneNextByte }
     ensures switches { NextByteSwitches }
@@ -35,8 +36,8 @@ pub fn settled_stays<F: Flash>(before: &F, after: &F)
     ensures { SettledStays (F.state before.now) (F.state after.now) }
 {}
 
-/// That a restart of a flash in memory leaves one of its images since the last Ok, each of which it may leave, and
-/// past its room for calls just what reads return.
+/// That a restart of a flash in memory leaves one of its images since the last Ok, each of which it
+/// may leave, and past its room for calls just what reads return.
 pub fn memory_leaves_images(flash: &MemoryFlash)
     ensures { LeavesImagesSince (last_ok_of flash.now) (state_of flash.now) }
 {}

@@ -1,5 +1,5 @@
-//! A flash as a store sees it: what reads return, and what a power cut at any moment may leave. On it rows that count
-//! only once their gate byte reads 00.
+//! A flash as a store sees it: what reads return, and what a power cut at any moment may leave. On
+//! it rows that count only once their gate byte reads 00.
 #![tactic(auto)]
 
 mod back;

@@ -1,6 +1,6 @@
 ghost use Rattle.std.specs.Prelude.{◌≡◌, ◌*◌, ◌<◌, ◌+◌, ℕ, List, length, IfOk, OnOk, OnErr, is_ok, IsOk, IsTrue, false, ◌&&◌, nat_lt, if◌then◌else◌};
 ghost use Rattle.port_io.specs.Faults.{FailsOnlyWhereRose, NeverFalls, one_more};
-ghost use Rattle.flash_pages.specs.Bytes.{blank, part};
+ghost use Rattle.flash_pages.specs.Bytes.{blank, part, IsErased};
 ghost use Rattle.flash_pages.specs.Flash.{block_len, card_blocks, IsFresh, IsRange, IsPiece, Reads, Changes, Restarts};
 ghost use Rattle.flash_pages.specs.Left.{left_by, with_left};
 ghost use Rattle.flash_pages.specs.Past.{content, after_call, Since, Write};
@@ -24,9 +24,11 @@ pub struct MemoryFlash {
     programmed: u64,
     erased: u64,
     ghost sized: { length bytes.items ≡ block_len * card_blocks },
-    ghost replays: { IsTrue history.past.known → content history.past.first history.past.calls ≡ bytes.items },
+    ghost replays: { IsTrue history.past.known
+        → content history.past.first history.past.calls ≡ bytes.items },
     ghost images_sized: { IsTrue history.past.known → (t : ℕ) (image : List ℕ)
-        → Since history.past.first history.past.calls t image → length image ≡ block_len * card_blocks },
+        → Since history.past.first history.past.calls t image
+        → length image ≡ block_len * card_blocks },
 }
 
 impl MemoryFlash {
@@ -35,11 +37,13 @@ impl MemoryFlash {
     ghost use Rattle.flash_pages.specs.Memory.{state_of, plan_of, torn_of, room_of};
     ghost use Rattle.flash_pages.specs.Plan.{planned};
 
-    /// Makes a blank flash. The plan's vectors are its own from then on. Takes the memory of the whole flash, and the
-    /// room for the plan's number of kept calls.
+    /// Makes a blank flash. The plan's vectors are its own from then on. Takes the memory of the
+    /// whole flash, and the room for the plan's number of kept calls.
     pub fn new(alloc: Global, plan: FlashPlan) -> Result<Self, NoMemory>
-        ensures fresh { IfOk result (λ flash. IsFresh (blank (block_len * card_blocks)) (state_of flash)) }
-        ensures plan { IfOk result (λ flash. plan_of flash ≡ planned plan.fail.items plan.fail_reads.items plan.cut) }
+        ensures fresh { IfOk result
+            (λ flash. IsFresh (blank (block_len * card_blocks)) (state_of flash)) }
+        ensures plan { IfOk result (λ flash. plan_of flash
+            ≡ planned plan.fail.items plan.fail_reads.items plan.cut) }
         ensures torn { IfOk result (λ flash. torn_of flash ≡ plan.torn.items) }
         ensures room { IfOk result (λ flash. room_of flash ≡ plan.kept) }
     {
@@ -47,13 +51,14 @@ impl MemoryFlash {
         Self::starting(alloc, bytes, None, plan)
     }
 
-    /// Makes a flash that holds these bytes, of the flash's length. It keeps a copy of them beside its content, since
-    /// its images follow from them; so it takes the memory of the flash twice, and the room for the plan's number of
-    /// kept calls.
+    /// Makes a flash that holds these bytes, of the flash's length. It keeps a copy of them beside
+    /// its content, since its images follow from them; so it takes the memory of the flash twice,
+    /// and the room for the plan's number of kept calls.
     pub fn holding(alloc: Global, bytes: &[u8], plan: FlashPlan) -> Result<Self, NoMemory>
         requires { length bytes.now ≡ block_len * card_blocks }
         ensures fresh { IfOk result (λ flash. IsFresh bytes.now (state_of flash)) }
-        ensures plan { IfOk result (λ flash. plan_of flash ≡ planned plan.fail.items plan.fail_reads.items plan.cut) }
+        ensures plan { IfOk result (λ flash. plan_of flash
+            ≡ planned plan.fail.items plan.fail_reads.items plan.cut) }
         ensures torn { IfOk result (λ flash. torn_of flash ≡ plan.torn.items) }
         ensures room { IfOk result (λ flash. room_of flash ≡ plan.kept) }
     {
@@ -71,7 +76,8 @@ impl MemoryFlash {
         requires first { first_of (option_map (λ v. v.items) first) ≡ bytes.items }
         requires size { length bytes.items ≡ block_len * card_blocks }
         ensures fresh { IfOk result (λ flash. IsFresh bytes.items (state_of flash)) }
-        ensures plan { IfOk result (λ flash. plan_of flash ≡ planned plan.fail.items plan.fail_reads.items plan.cut) }
+        ensures plan { IfOk result (λ flash. plan_of flash
+            ≡ planned plan.fail.items plan.fail_reads.items plan.cut) }
         ensures torn { IfOk result (λ flash. torn_of flash ≡ plan.torn.items) }
         ensures room { IfOk result (λ flash. room_of flash ≡ plan.kept) }
     {
@@ -91,7 +97,8 @@ impl MemoryFlash {
         })
     }
 
-    // Begins a program or an erase, which goes on after Ok. Where it is to fail it leaves what a failure leaves.
+    // Begins a program or an erase, which goes on after Ok. Where it is to fail it leaves what a
+    // failure leaves.
     fn begin(&mut self, at: u32, len: u32) -> Result<(), Failed>
         requires { IsRange card_blocks at len }
         ensures answer { is_ok result ≡ is_done (outcome_of self.old.power) }
@@ -99,11 +106,13 @@ impl MemoryFlash {
         ensures programmed { self.new.programmed ≡ self.old.programmed }
         ensures erased { self.new.erased ≡ self.old.erased }
         ensures torn { self.new.history.torn ≡ self.old.history.torn }
-        ensures ok { OnOk result ((self.new.bytes.items ≡ self.old.bytes.items) × (self.new.history.past ≡ self.old.history.past)) }
+        ensures ok { OnOk result ((self.new.bytes.items ≡ self.old.bytes.items)
+            × (self.new.history.past ≡ self.old.history.past)) }
         ensures err { OnErr result (
             let left = left_by (outcome_of self.old.power) self.old.history.torn (blank len) in
             (self.new.bytes.items ≡ with_left self.old.bytes.items at left)
-            × (self.new.history.past ≡ after_call self.old.history.past (Write at len left false))) }
+            × (self.new.history.past
+            ≡ after_call self.old.history.past (Write at len left false))) }
         ensures cause { FailsOnlyWhereRose result self.old.power.faults self.new.power.faults }
         ensures count { NeverFalls self.old.power.faults self.new.power.faults }
     {
@@ -132,7 +141,8 @@ impl Flash for MemoryFlash {
 
     ghost state = { state_of };
 
-    ghost lawful = { λ flash. IsFlash-memory flash.history.past flash.bytes.items flash.programmed flash.erased flash.power.faults flash.sized flash.replays flash.images_sized };
+    ghost lawful = { λ flash. IsFlash-memory flash.history.past flash.bytes.items flash.programmed
+        flash.erased flash.power.faults flash.sized flash.replays flash.images_sized };
 
     fn blocks(&self) -> u32 {
         BLOCKS
@@ -146,7 +156,8 @@ impl Flash for MemoryFlash {
         requires { IsRange card_blocks at (length buf.old) }
         ensures bytes { OnOk result (buf.new ≡ part at (length buf.old) (bytes_of self.old)) }
         ensures reads { Reads (state_of self.old) (state_of self.new) }
-        ensures cause { FailsOnlyWhereRose result (plan_of self.old).faults (plan_of self.new).faults }
+        ensures cause { FailsOnlyWhereRose result (plan_of self.old).faults
+            (plan_of self.new).faults }
         ensures answer { is_ok result ≡ is_read (plan_of self.old) }
         ensures plan { plan_of self.new ≡ after_read (plan_of self.old) }
         ensures known { (state_of self.new).images_known ≡ (state_of self.old).images_known }
@@ -165,21 +176,26 @@ impl Flash for MemoryFlash {
 
     fn program(&mut self, at: u32, bytes: &[u8]) -> Result<(), Failed>
         requires piece { IsPiece card_blocks at (length bytes.now) }
-        requires erased { part at (length bytes.now) (bytes_of self.old) ≡ blank (length bytes.now) }
+        requires erased { IsErased at (length bytes.now) (bytes_of self.old) }
         ensures changes { Changes at bytes.now (state_of self.old) (state_of self.new) result }
-        ensures programmed { (state_of self.new).programmed ≡ one_more (state_of self.old).programmed }
+        ensures programmed { (state_of self.new).programmed
+            ≡ one_more (state_of self.old).programmed }
         ensures erased { (state_of self.new).erased ≡ (state_of self.old).erased }
-        ensures cause { FailsOnlyWhereRose result (plan_of self.old).faults (plan_of self.new).faults }
+        ensures cause { FailsOnlyWhereRose result (plan_of self.old).faults
+            (plan_of self.new).faults }
         ensures answer { is_ok result ≡ is_done (outcome_of (plan_of self.old)) }
         ensures plan { plan_of self.new ≡ after_change (plan_of self.old) }
         ensures known { (state_of self.new).images_known
-            ≡ ((state_of self.old).images_known && nat_lt (state_of self.old).moment (room_of self.old)) }
+            ≡ ((state_of self.old).images_known
+            && nat_lt (state_of self.old).moment (room_of self.old)) }
         ensures last_ok { IsTrue (state_of self.new).images_known
-            → last_ok_of self.new ≡ (if is_ok result then (state_of self.new).moment else last_ok_of self.old) }
+            → last_ok_of self.new
+            ≡ (if is_ok result then (state_of self.new).moment else last_ok_of self.old) }
         ensures room { room_of self.new ≡ room_of self.old }
         ensures torn { torn_of self.new ≡ torn_of self.old }
         ensures left { bytes_of self.new
-            ≡ with_left (bytes_of self.old) at (left_by (outcome_of (plan_of self.old)) (torn_of self.old) bytes.now) }
+            ≡ with_left (bytes_of self.old) at
+            (left_by (outcome_of (plan_of self.old)) (torn_of self.old) bytes.now) }
     {
         self.programmed = self.programmed.saturating_add(1);
         self.begin(at, bytes.len() as u32)?;
@@ -192,16 +208,20 @@ impl Flash for MemoryFlash {
 
     fn erase(&mut self, block: u32) -> Result<(), Failed>
         requires { block < card_blocks }
-        ensures changes { Changes (block_len * block) (blank block_len) (state_of self.old) (state_of self.new) result }
+        ensures changes { Changes (block_len * block) (blank block_len) (state_of self.old)
+            (state_of self.new) result }
         ensures programmed { (state_of self.new).programmed ≡ (state_of self.old).programmed }
         ensures erased { (state_of self.new).erased ≡ one_more (state_of self.old).erased }
-        ensures cause { FailsOnlyWhereRose result (plan_of self.old).faults (plan_of self.new).faults }
+        ensures cause { FailsOnlyWhereRose result (plan_of self.old).faults
+            (plan_of self.new).faults }
         ensures answer { is_ok result ≡ is_done (outcome_of (plan_of self.old)) }
         ensures plan { plan_of self.new ≡ after_change (plan_of self.old) }
         ensures known { (state_of self.new).images_known
-            ≡ ((state_of self.old).images_known && nat_lt (state_of self.old).moment (room_of self.old)) }
+            ≡ ((state_of self.old).images_known
+            && nat_lt (state_of self.old).moment (room_of self.old)) }
         ensures last_ok { IsTrue (state_of self.new).images_known
-            → last_ok_of self.new ≡ (if is_ok result then (state_of self.new).moment else last_ok_of self.old) }
+            → last_ok_of self.new
+            ≡ (if is_ok result then (state_of self.new).moment else last_ok_of self.old) }
         ensures room { room_of self.new ≡ room_of self.old }
         ensures torn { torn_of self.new ≡ torn_of self.old }
         ensures left { bytes_of self.new ≡ with_left (bytes_of self.old) (block_len * block)
@@ -217,13 +237,16 @@ impl Flash for MemoryFlash {
 
     fn restart(&mut self) -> Result<(), Failed>
         ensures restarts { Restarts (state_of self.old) (state_of self.new) result }
-        ensures cause { FailsOnlyWhereRose result (plan_of self.old).faults (plan_of self.new).faults }
+        ensures cause { FailsOnlyWhereRose result (plan_of self.old).faults
+            (plan_of self.new).faults }
         ensures answer { IsOk result }
         ensures plan { plan_of self.new ≡ after_restart (plan_of self.old) }
         ensures known { (state_of self.new).images_known
-            ≡ ((state_of self.old).images_known && nat_lt (state_of self.old).moment (room_of self.old)) }
+            ≡ ((state_of self.old).images_known
+            && nat_lt (state_of self.old).moment (room_of self.old)) }
         ensures last_ok { IsTrue (state_of self.new).images_known
-            → last_ok_of self.new ≡ (if is_ok result then (state_of self.new).moment else last_ok_of self.old) }
+            → last_ok_of self.new
+            ≡ (if is_ok result then (state_of self.new).moment else last_ok_of self.old) }
         ensures room { room_of self.new ≡ room_of self.old }
         ensures torn { torn_of self.new ≡ torn_of self.old }
         ensures bytes { bytes_of self.new ≡ bytes_of self.old }

@@ -4,19 +4,21 @@ ghost use Rattle.flash_pages.specs.Plan.{planned, is_named, outcome_of, after_ch
 
 use std::marker::Model;
 
-/// Which calls of a flash in memory fail. Program and erase calls are numbered together from 1, reads by themselves.
+/// Which calls of a flash in memory fail. Program and erase calls are numbered together from 1,
+/// reads by themselves.
 #[derive(Drop)]
 pub struct FlashPlan {
     /// The program and erase calls that fail. Each leaves the torn bytes in its range or block.
     pub fail: Vec<u64>,
     /// The reads that fail.
     pub fail_reads: Vec<u64>,
-    /// The program or erase call in which power is cut: it leaves the torn bytes, and each later call fails and does
-    /// nothing until `restart`.
+    /// The program or erase call in which power is cut: it leaves the torn bytes, and each later
+    /// call fails and does nothing until `restart`.
     pub cut: Option<u64>,
     /// The bytes that a failure leaves, over and over. None leave FF.
     pub torn: Vec<u8>,
-    /// For how many program, erase and restart calls there is room in the record from which the images follow.
+    /// For how many program, erase and restart calls there is room in the record from which the
+    /// images follow.
     pub kept: u64,
 }
 
@@ -80,7 +82,8 @@ impl Power {
         self.faults
     }
 
-    /// Counts a program or an erase, with its fault if it is to fail, and returns what becomes of it.
+    /// Counts a program or an erase, with its fault if it is to fail, and returns what becomes of
+    /// it.
     pub(crate) fn begin_change(&mut self) -> Outcome
         ensures outcome { result ≡ outcome_of self.old }
         ensures after { self.new ≡ after_change self.old }

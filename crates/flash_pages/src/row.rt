@@ -1,7 +1,7 @@
 ghost use Rattle.std.specs.Prelude.{◌≡◌, ◌+◌, ◌-◌, ◌%◌, ◌<◌, ◌≤◌, [], ◌∷◌, ◌++◌, ℕ, List, min, length, take, drop, Some, IfOk, OnOk, IfSome};
 ghost use Rattle.port_io.specs.Faults.{FailsOnlyWhereRose};
 ghost use Rattle.flash_pages.specs.Bank.{start_of, end_of, bank_bytes, LiesInFlash, IsPlaceIn};
-ghost use Rattle.flash_pages.specs.Bytes.{blank, part, patch};
+ghost use Rattle.flash_pages.specs.Bytes.{part, patch, IsErased};
 ghost use Rattle.flash_pages.specs.Flash.{block_len, card_blocks, IsRange, Reads, Touches};
 ghost use Rattle.flash_pages.specs.Append.{EndsAt, AppendsRow, LeavesTornRow, KeepsRows};
 ghost use Rattle.flash_pages.specs.Rows.{behind_gate, RowIs, LiesBefore};
@@ -24,7 +24,8 @@ pub trait Body {
     fn len(&self) -> u32
         ensures { result ≡ length (bytes self.now) };
 
-    /// Copies the bytes from place `at` on to the start of `out`, as many as both have, and returns their number.
+    /// Copies the bytes from place `at` on to the start of `out`, as many as both have, and returns
+    /// their number.
     fn fill(&self, at: u32, out: &mut [u8]) -> usize
         requires { at ≤ length (bytes self.now) }
         ensures count { result ≡ min (length out.old) (length (bytes self.now) - at) }
@@ -46,10 +47,12 @@ pub enum RowAt {
 pub fn read_row<F: Flash>(flash: &mut F, bank: Bank, at: u32) -> Result<RowAt, Failed>
     requires bank { LiesInFlash card_blocks bank }
     requires place { IsPlaceIn bank at }
-    ensures row { IfOk result (λ row. IfSome (F.state flash.old).bytes (λ bytes. RowIs at (part at (end_of bank - at) bytes) row)) }
+    ensures row { IfOk result (λ row. IfSome (F.state flash.old).bytes
+        (λ bytes. RowIs at (part at (end_of bank - at) bytes) row)) }
     ensures place { IfOk result (LiesBefore at (end_of bank)) }
     ensures reads { Reads (F.state flash.old) (F.state flash.new) }
-    ensures cause { FailsOnlyWhereRose result (F.state flash.old).faults (F.state flash.new).faults }
+    ensures cause { FailsOnlyWhereRose result (F.state flash.old).faults
+        (F.state flash.new).faults }
 {
     let end = BLOCK_LEN * (bank.first + bank.blocks);
     let held = HEAD_LEN.min(end - at) as usize;
@@ -63,7 +66,8 @@ pub fn read_row<F: Flash>(flash: &mut F, bank: Bank, at: u32) -> Result<RowAt, F
 fn row_at(head: &[u8], at: u32, end: u32) -> RowAt
     requires place { at ≤ end }
     requires length { length head.now ≡ min 5 (end - at) }
-    ensures row { (rest : List ℕ) → length rest ≡ end - at → head.now ≡ take 5 rest → RowIs at rest result }
+    ensures row { (rest : List ℕ) → length rest ≡ end - at → head.now ≡ take 5 rest
+        → RowIs at rest result }
     ensures place { LiesBefore at end result }
 {
     match head {
@@ -84,8 +88,8 @@ fn row_at(head: &[u8], at: u32, end: u32) -> RowAt
     }
 }
 
-/// Appends a row: its length and body, in pieces of at most 256 bytes inside one block, and then its gate. Returns the
-/// place behind it.
+/// Appends a row: its length and body, in pieces of at most 256 bytes inside one block, and then
+/// its gate. Returns the place behind it.
 pub fn append_row<F: Flash, B: Body>(
     flash: &mut F,
     bank: Bank,
@@ -96,10 +100,11 @@ pub fn append_row<F: Flash, B: Body>(
     requires place { IsPlaceIn bank at }
     requires fits { at + 5 + length (B.bytes body.now) ≤ end_of bank }
     requires erased { IfSome (F.state flash.old).bytes
-        (λ before. part at (5 + length (B.bytes body.now)) before ≡ blank (5 + length (B.bytes body.now))) }
+        (IsErased at (5 + length (B.bytes body.now))) }
 
     ensures next { IfOk result (λ next. next ≡ at + 5 + length (B.bytes body.now)) }
-    ensures appends { AppendsRow at (B.bytes body.now) (F.state flash.old) (F.state flash.new) result }
+    ensures appends { AppendsRow at (B.bytes body.now) (F.state flash.old)
+        (F.state flash.new) result }
     ensures torn { LeavesTornRow at (B.bytes body.now) (F.state flash.old) (F.state flash.new) }
 
     // Where the open rows of the bank end at this place, the bank keeps them.
@@ -107,7 +112,8 @@ pub fn append_row<F: Flash, B: Body>(
         → EndsAt (bank_bytes bank before) bodies (at - start_of bank) (length (B.bytes body.now))
         → KeepsRows bank bodies (B.bytes body.now) (F.state flash.old) (F.state flash.new) result) }
 
-    ensures cause { FailsOnlyWhereRose result (F.state flash.old).faults (F.state flash.new).faults }
+    ensures cause { FailsOnlyWhereRose result (F.state flash.old).faults
+        (F.state flash.new).faults }
 {
     program_behind_gate(flash, at + GATE_LEN, body)?;
     flash.program(at, &[OPEN])?;
@@ -118,12 +124,15 @@ pub fn append_row<F: Flash, B: Body>(
 fn program_behind_gate<F: Flash, B: Body>(flash: &mut F, place: u32, body: &B) -> Result<(), Failed>
     requires fits { IsRange card_blocks place (4 + length (B.bytes body.now)) }
     requires erased { IfSome (F.state flash.old).bytes
-        (λ before. part place (4 + length (B.bytes body.now)) before ≡ blank (4 + length (B.bytes body.now))) }
+        (IsErased place (4 + length (B.bytes body.now))) }
     ensures done { OnOk result (IfSome (F.state flash.old).bytes
-        (λ before. (F.state flash.new).bytes ≡ Some (patch before place (behind_gate (B.bytes body.now))))) }
-    ensures touches { Touches place (4 + length (B.bytes body.now)) (F.state flash.old) (F.state flash.new) }
+        (λ before. (F.state flash.new).bytes
+        ≡ Some (patch before place (behind_gate (B.bytes body.now))))) }
+    ensures touches { Touches place (4 + length (B.bytes body.now)) (F.state flash.old)
+        (F.state flash.new) }
     ensures erased { (F.state flash.new).erased ≡ (F.state flash.old).erased }
-    ensures cause { FailsOnlyWhereRose result (F.state flash.old).faults (F.state flash.new).faults }
+    ensures cause { FailsOnlyWhereRose result (F.state flash.old).faults
+        (F.state flash.new).faults }
 {
     let len = LENGTH_LEN + body.len();
     let mut buffer = [0u8; PIECE_LEN];

@@ -9,8 +9,8 @@ use port_io::Failed;
 
 const ERASED: u8 = 0xff;
 
-/// What a switch row says: the live bank, and the place in the row of the byte that the next switch programs to 00,
-/// if there is one.
+/// What a switch row says: the live bank, and the place in the row of the byte that the next switch
+/// programs to 00, if there is one.
 #[derive(Clone, Copy, Debug, PartialEq, Eq)]
 pub struct Switch {
     pub live: u8,
@@ -24,9 +24,11 @@ pub fn read_switch<F: Flash>(flash: &mut F, block: u32) -> Result<Switch, Failed
         (λ bytes. switch.live ≡ live_of (part (block_len * block) block_len bytes))) }
     ensures next { IfOk result (λ switch. IfSome (F.state flash.old).bytes
         (λ bytes. IsNextByte (part (block_len * block) block_len bytes) switch.next)) }
-    ensures range { IfOk result (λ switch. (switch.live < 2) × IfSome switch.next (λ next. next < block_len)) }
+    ensures range { IfOk result (λ switch. (switch.live < 2)
+        × IfSome switch.next (λ next. next < block_len)) }
     ensures reads { Reads (F.state flash.old) (F.state flash.new) }
-    ensures cause { FailsOnlyWhereRose result (F.state flash.old).faults (F.state flash.new).faults }
+    ensures cause { FailsOnlyWhereRose result (F.state flash.old).faults
+        (F.state flash.new).faults }
 {
     let mut row = [0u8; BLOCK_LEN as usize];
     flash.read(BLOCK_LEN * block, &mut row)?;

@@ -277,8 +277,8 @@ fn rows_after_cut(
     Ok((appended && on, row_lengths(alloc, &mut flash, BANK)?))
 }
 
-// A row of 600 bytes behind one of five takes three calls for length and body and one for the gate. Only a gate torn
-// to 00 opens it.
+// A row of 600 bytes behind one of five takes three calls for length and body and one for the gate.
+// Only a gate torn to 00 opens it.
 #[test]
 fn an_append_that_is_cut_leaves_the_rows_of_before_or_one_more(
     rt: HostRuntime,

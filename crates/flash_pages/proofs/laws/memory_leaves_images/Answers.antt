@@ -4,4 +4,5 @@ use Rattle.flash_pages.proofs.laws.memory_leaves_images.Goals as goal
 pub returns : goal.returns
 returns c =
     let flash = c.args.flash.now in
-    leaves_images flash.history.past flash.bytes.items flash.programmed flash.erased flash.power.faults flash.replays
+    leaves_images flash.history.past flash.bytes.items flash.programmed flash.erased
+    flash.power.faults flash.replays

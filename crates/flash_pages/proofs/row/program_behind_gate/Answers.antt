@@ -11,10 +11,13 @@ program-requires-clause-erased g c =
     let body = g.B.Body.bytes c.args.body.now in
     let bytes = c.fill_behind_gate.new.out in
     let n : length (take c.piece_len-n.result c.pieces.buffer) ≡ c.piece_len-n.result =
-    length-take-le c.piece_len-n.result c.pieces.buffer (omega (arith, c.piece_len-n.ensures.at_most)) in
-    let long : length bytes ≡ length (take c.piece_len-n.result c.pieces.buffer) = c.fill_behind_gate.auto.out in
+    length-take-le c.piece_len-n.result c.pieces.buffer
+    (omega (arith, c.piece_len-n.ensures.at_most)) in
+    let long : length bytes ≡ length (take c.piece_len-n.result c.pieces.buffer) =
+    c.fill_behind_gate.auto.out in
     let is_part : bytes ≡ part c.pieces.done (length bytes) (behind_gate body) =
-    c.fill_behind_gate.ensures ∙ ap (λ (k : ℕ). part c.pieces.done k (behind_gate body)) (sym long) in
+    c.fill_behind_gate.ensures
+    ∙ ap (λ (k : ℕ). part c.pieces.done k (behind_gate body)) (sym long) in
     let within : c.pieces.done + length bytes ≤ 4 + length body =
     omega (arith, n, long, c.piece_len-n.ensures.within, c.len-len.ensures) in
     next_erased 2433 _ _ c.args.place c.pieces.done (4 + length body) (behind_gate body) bytes
@@ -26,15 +29,19 @@ returns-in_err-program-clause-touches g c =
     let body = g.B.Body.bytes c.args.body.now in
     let bytes = c.fill_behind_gate.new.out in
     let n : length (take c.piece_len-n.result c.pieces.buffer) ≡ c.piece_len-n.result =
-    length-take-le c.piece_len-n.result c.pieces.buffer (omega (arith, c.piece_len-n.ensures.at_most)) in
-    let long : length bytes ≡ length (take c.piece_len-n.result c.pieces.buffer) = c.fill_behind_gate.auto.out in
+    length-take-le c.piece_len-n.result c.pieces.buffer
+    (omega (arith, c.piece_len-n.ensures.at_most)) in
+    let long : length bytes ≡ length (take c.piece_len-n.result c.pieces.buffer) =
+    c.fill_behind_gate.auto.out in
     let is_part : bytes ≡ part c.pieces.done (length bytes) (behind_gate body) =
-    c.fill_behind_gate.ensures ∙ ap (λ (k : ℕ). part c.pieces.done k (behind_gate body)) (sym long) in
+    c.fill_behind_gate.ensures
+    ∙ ap (λ (k : ℕ). part c.pieces.done k (behind_gate body)) (sym long) in
     let within : c.pieces.done + length bytes ≤ 4 + length body =
     omega (arith, n, long, c.piece_len-n.ensures.within, c.len-len.ensures) in
     next_touches 2433 _ _ c.args.place c.pieces.done (4 + length body) (behind_gate body) bytes
     (g.met.F.Flash.lawful c.args.flash.now) (length-behind_gate body) c.requires.fits within is_part
-    c.pieces.invariant.touches c.pieces.invariant.content _ _ (g.met.F.Flash.lawful c.program.new.self)
+    c.pieces.invariant.touches c.pieces.invariant.content _ _
+    (g.met.F.Flash.lawful c.program.new.self)
     c.program.ensures.changes
 
 pub pieces-preserved : goal.pieces-preserved
@@ -42,23 +49,29 @@ pieces-preserved g c =
     let body = g.B.Body.bytes c.args.body.now in
     let bytes = c.fill_behind_gate.new.out in
     let n : length (take c.piece_len-n.result c.pieces.buffer) ≡ c.piece_len-n.result =
-    length-take-le c.piece_len-n.result c.pieces.buffer (omega (arith, c.piece_len-n.ensures.at_most)) in
-    let long : length bytes ≡ length (take c.piece_len-n.result c.pieces.buffer) = c.fill_behind_gate.auto.out in
+    length-take-le c.piece_len-n.result c.pieces.buffer
+    (omega (arith, c.piece_len-n.ensures.at_most)) in
+    let long : length bytes ≡ length (take c.piece_len-n.result c.pieces.buffer) =
+    c.fill_behind_gate.auto.out in
     let is_part : bytes ≡ part c.pieces.done (length bytes) (behind_gate body) =
-    c.fill_behind_gate.ensures ∙ ap (λ (k : ℕ). part c.pieces.done k (behind_gate body)) (sym long) in
+    c.fill_behind_gate.ensures
+    ∙ ap (λ (k : ℕ). part c.pieces.done k (behind_gate body)) (sym long) in
     let within : c.pieces.done + length bytes ≤ 4 + length body =
     omega (arith, n, long, c.piece_len-n.ensures.within, c.len-len.ensures) in
     let first = g.met.F.Flash.lawful c.args.flash.now in
     let lawful = g.met.F.Flash.lawful c.program.new.self in
     let was = c.pieces.invariant in
     let content =
-    next_content 2433 _ _ c.args.place c.pieces.done (4 + length body) (behind_gate body) bytes first
+    next_content 2433 _ _ c.args.place c.pieces.done (4 + length body)
+    (behind_gate body) bytes first
     (length-behind_gate body) c.requires.fits within is_part was.touches was.content _ _ lawful
     c.in_ok-program.ensures.changes refl in
     record {
       within = omega (arith, within, long, n);
-      touches = next_touches 2433 _ _ c.args.place c.pieces.done (4 + length body) (behind_gate body) bytes first
-          (length-behind_gate body) c.requires.fits within is_part was.touches was.content _ _ lawful
+      touches = next_touches 2433 _ _ c.args.place c.pieces.done (4 + length body)
+          (behind_gate body) bytes first
+          (length-behind_gate body) c.requires.fits within is_part was.touches was.content _ _
+          lawful
           c.program.ensures.changes;
       content = subst
           (λ (k : ℕ). IfSome (g.F.Flash.state c.args.flash.now).bytes

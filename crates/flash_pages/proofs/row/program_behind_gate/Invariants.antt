@@ -12,7 +12,8 @@ invariant-pieces g l =
     record {
       within : l.done ≤ 4 + length body;
       touches : Touches l.place (4 + length body) old now;
-      content : IfSome old.bytes (λ before. now.bytes ≡ Some (patch before l.place (take l.done (behind_gate body))));
+      content : IfSome old.bytes
+          (λ before. now.bytes ≡ Some (patch before l.place (take l.done (behind_gate body))));
       erased : now.erased ≡ old.erased;
     }
 

@@ -17,10 +17,12 @@ returns-in_err-begin-clause-changes c =
     let left = left_by (outcome_of old.power) old.history.torn (blank 4096) in
     let fits : at + 4096 ≤ length old.bytes.items = omega (arith, c.requires, old.sized) in
     let err = c.in_err-begin.ensures.err in
-    Changes-memory old.history.past c.begin.new.self.history.past at 4096 left false old.bytes.items _ (blank 4096) _ _
+    Changes-memory old.history.past c.begin.new.self.history.past at 4096 left false old.bytes.items
+    _ (blank 4096) _ _
     _ _ _ _ c.from_residual.result err.1 old.replays err.0 (length-blank 4096) fits
     (left_size (outcome_of old.power) old.history.torn 4096) (λ says. absurd (false≢true says))
-    (not_ok c.from_residual.result c.from_residual.ensures.0) (omega (arith, c.begin.ensures.programmed))
+    (not_ok c.from_residual.result c.from_residual.ensures.0)
+    (omega (arith, c.begin.ensures.programmed))
     (omega (arith, c.begin.ensures.erased)) c.begin.ensures.count
 
 pub invariant_of-self-2 : goal.invariant_of-self-2
@@ -30,18 +32,23 @@ invariant_of-self-2 c =
     let call = Write at 4096 (Some (blank 4096)) true in
     let fits : at + length (blank 4096) ≤ length old.bytes.items =
     omega (arith, c.requires, old.sized, length-blank 4096) in
-    let past_is = c.keep.ensures.past ∙ ap (λ (past : Past). after_call past call) c.in_ok-begin.ensures.ok.1 in
+    let past_is = c.keep.ensures.past
+    ∙ ap (λ (past : Past). after_call past call) c.in_ok-begin.ensures.ok.1 in
     let erased : c.tear.new.content ≡ patch old.bytes.items at (blank 4096) =
     c.tear.ensures
-    ∙ ap (λ (l : List ℕ). patch l at (repeated [] 4096)) (c.deref_mut.ensures.value ∙ c.in_ok-begin.ensures.ok.0)
+    ∙ ap (λ (l : List ℕ). patch l at (repeated [] 4096))
+    (c.deref_mut.ensures.value ∙ c.in_ok-begin.ensures.ok.0)
     ∙ ap (patch old.bytes.items at) (repeated-nil 4096) in
     let items =
-    with_items_is c.begin.new.self.bytes c.tear.new.content (c.tear.auto.content ∙ c.deref_mut.ensures.len) ∙ erased in
+    with_items_is c.begin.new.self.bytes c.tear.new.content
+    (c.tear.auto.content ∙ c.deref_mut.ensures.len) ∙ erased in
     let sized = ap length items ∙ length-patch old.bytes.items at (blank 4096) fits ∙ old.sized in
     let before : IsKept 9965568 old.history.past old.bytes.items =
     record { replays = old.replays; images_sized = old.images_sized } in
-    let after = kept_after 9965568 old.history.past c.keep.new.self.past call old.bytes.items _ past_is before
-    (λ known. content-write old.history.past.first at 4096 (Some (blank 4096)) true old.history.past.calls
+    let after =
+    kept_after 9965568 old.history.past c.keep.new.self.past call old.bytes.items _ past_is before
+    (λ known. content-write old.history.past.first at 4096
+    (Some (blank 4096)) true old.history.past.calls
     ∙ ap (λ (l : List ℕ). patch l at (blank 4096)) (old.replays known) ∙ sym items)
     sized in
     record { sized = sized; replays = after.replays; images_sized = after.images_sized }
@@ -52,16 +59,22 @@ returns-clause-changes c =
     let at = 4096 * c.args.block in
     let call = Write at 4096 (Some (blank 4096)) true in
     let fits : at + 4096 ≤ length old.bytes.items = omega (arith, c.requires, old.sized) in
-    let past_is = c.keep.ensures.past ∙ ap (λ (past : Past). after_call past call) c.in_ok-begin.ensures.ok.1 in
+    let past_is = c.keep.ensures.past
+    ∙ ap (λ (past : Past). after_call past call) c.in_ok-begin.ensures.ok.1 in
     let erased : c.tear.new.content ≡ patch old.bytes.items at (blank 4096) =
     c.tear.ensures
-    ∙ ap (λ (l : List ℕ). patch l at (repeated [] 4096)) (c.deref_mut.ensures.value ∙ c.in_ok-begin.ensures.ok.0)
+    ∙ ap (λ (l : List ℕ). patch l at (repeated [] 4096))
+    (c.deref_mut.ensures.value ∙ c.in_ok-begin.ensures.ok.0)
     ∙ ap (patch old.bytes.items at) (repeated-nil 4096) in
     let items =
-    with_items_is c.begin.new.self.bytes c.tear.new.content (c.tear.auto.content ∙ c.deref_mut.ensures.len) ∙ erased in
-    Changes-memory old.history.past c.keep.new.self.past at 4096 (Some (blank 4096)) true old.bytes.items _
-    (blank 4096) _ _ _ _ _ _ (Ok tt) past_is old.replays items (length-blank 4096) fits (length-blank 4096)
-    (λ says. refl) refl (omega (arith, c.begin.ensures.programmed)) (omega (arith, c.begin.ensures.erased))
+    with_items_is c.begin.new.self.bytes c.tear.new.content
+    (c.tear.auto.content ∙ c.deref_mut.ensures.len) ∙ erased in
+    Changes-memory old.history.past c.keep.new.self.past at 4096
+    (Some (blank 4096)) true old.bytes.items _
+    (blank 4096) _ _ _ _ _ _ (Ok tt) past_is old.replays items (length-blank 4096) fits
+    (length-blank 4096)
+    (λ says. refl) refl (omega (arith, c.begin.ensures.programmed))
+    (omega (arith, c.begin.ensures.erased))
     c.begin.ensures.count
 
 pub returns-clause-left : goal.returns-clause-left
@@ -70,8 +83,11 @@ returns-clause-left c =
     let at = 4096 * c.args.block in
     let erased : c.tear.new.content ≡ patch old.bytes.items at (blank 4096) =
     c.tear.ensures
-    ∙ ap (λ (l : List ℕ). patch l at (repeated [] 4096)) (c.deref_mut.ensures.value ∙ c.in_ok-begin.ensures.ok.0)
+    ∙ ap (λ (l : List ℕ). patch l at (repeated [] 4096))
+    (c.deref_mut.ensures.value ∙ c.in_ok-begin.ensures.ok.0)
     ∙ ap (patch old.bytes.items at) (repeated-nil 4096) in
     let is_done = is_done-is (outcome_of old.power) (sym c.in_ok-begin.ensures.answer) in
-    with_items_is c.begin.new.self.bytes c.tear.new.content (c.tear.auto.content ∙ c.deref_mut.ensures.len) ∙ erased
-    ∙ ap (λ (o : Outcome). with_left old.bytes.items at (left_by o old.history.torn (blank 4096))) (sym is_done)
+    with_items_is c.begin.new.self.bytes c.tear.new.content
+    (c.tear.auto.content ∙ c.deref_mut.ensures.len) ∙ erased
+    ∙ ap (λ (o : Outcome). with_left old.bytes.items at (left_by o old.history.torn (blank 4096)))
+    (sym is_done)

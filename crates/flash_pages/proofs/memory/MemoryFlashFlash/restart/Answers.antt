@@ -16,5 +16,6 @@ returns-clause-restarts c =
     (λ (faults : ℕ). Restarts {E = Failed} before
     (memory_state c.keep.new.self.past bytes old.programmed old.erased faults) (Ok tt))
     (sym (ap (λ (p : Plan). p.faults) c.restart.ensures))
-    (Restarts-memory {E = Failed} past c.keep.new.self.past bytes old.programmed old.erased old.power.faults (Ok tt)
+    (Restarts-memory {E = Failed} past c.keep.new.self.past bytes old.programmed old.erased
+    old.power.faults (Ok tt)
     c.keep.ensures.past old.replays)
