@@ -51,77 +51,83 @@ module _ (a b : FlashState) (at : ℕ) (body : List ℕ)
     touches = touches_first;
   }
 
--- the gate's program
+-- length and body were programmed from a to b, and the gate from b to c
+pub record IsGated {E : Type 0} (blocks : ℕ) (a b c : FlashState) (at : ℕ) (body : List ℕ)
+    (result : Result Unit E) : Type 0 where
+  pub lawful : IsFlash blocks c
+  pub first : Touches (at + 1) (4 + length body) a b
+  pub content : IfSome a.bytes (λ before. b.bytes ≡ Some (patch before (at + 1) (behind_gate body)))
+  pub gate : Changes at (0 ∷ []) b c result
+  pub early : b.erased ≡ a.erased
+  pub late : c.erased ≡ b.erased
+
 module _ {E : Type 0} (blocks : ℕ) (a b c : FlashState) (at : ℕ) (body : List ℕ)
-    (result : Result Unit E)
-    (lawful : IsFlash blocks c) (first : Touches (at + 1) (4 + length body) a b)
-    (content : IfSome a.bytes (λ before. b.bytes ≡ Some (patch before (at + 1) (behind_gate body))))
-    (gate : Changes at (0 ∷ []) b c result) where
+    (result : Result Unit E) (gated : IsGated blocks a b c at body result) where
   abbrev patched : List ℕ → List ℕ
   patched before = patch before (at + 1) (behind_gate body)
 
   content_at : (before : List ℕ) → a.bytes ≡ Some before → b.bytes ≡ Some (patched before)
-  content_at before is = at_some a.bytes _ before is content
+  content_at before is = at_some a.bytes _ before is gated.content
 
-  pub touches_both : Touches at (5 + length body) a c
+  torn_before : LeavesTornRow at body a b
+  torn_before = torn_first a b at body gated.first
+
+  touches_both : Touches at (5 + length body) a c
   touches_both =
-      Touches-trans blocks at (5 + length body) a b c lawful (touches_first a b at body first)
-      (Touches-wider at 1 at (5 + length body) b c (omega arith) (omega arith)
-      (Touches-from_changes at (0 ∷ []) b c result gate))
+      let late = Touches-from_changes at (0 ∷ []) b c result gated.gate in
+      Touches-trans blocks at (5 + length body) a b c gated.lawful
+      (touches_first a b at body gated.first)
+      (Touches-wider at 1 at (5 + length body) b c (omega arith) (omega arith) late)
 
   pub torn_both : LeavesTornRow at body a c
   torn_both = record {
     bytes = from_each a.bytes _ (λ before is. from_each c.bytes _ (λ now is_now.
-        inr (at_some c.bytes _ now is_now
-        (at_some b.bytes (λ x. IfSome c.bytes (DiffersIn at 1 x)) (patched before)
-        (content_at before is)
-        gate.torn))));
+        let Now : List ℕ → Type 0 = λ x. IfSome c.bytes (DiffersIn at 1 x) in
+        let differs = at_some b.bytes Now (patched before) (content_at before is) gated.gate.torn in
+        inr (at_some c.bytes _ now is_now differs)));
     may_leave = from_each a.bytes _ (λ before is.
         let early : AddsOnly a b (IsTornRow at body before) =
-        at_some a.bytes (λ x. AddsOnly a b (IsTornRow at body x)) before is
-        (torn_first a b at body first).may_leave in
+        at_some a.bytes (λ x. AddsOnly a b (IsTornRow at body x)) before is torn_before.may_leave in
+        let Late : List ℕ → Type 0 = λ x. AddsOnly b c (DiffersIn at 1 x) in
         let late : AddsOnly b c (DiffersIn at 1 (patched before)) =
-        at_some b.bytes (λ x. AddsOnly b c (DiffersIn at 1 x)) (patched before)
-        (content_at before is)
-        gate.may_leave in
-        AddsOnly-trans a b c (IsTornRow at body before) gate.time early
+        at_some b.bytes Late (patched before) (content_at before is) gated.gate.may_leave in
+        AddsOnly-trans a b c (IsTornRow at body before) gated.gate.time early
         (AddsOnly-weaken b c _ _ (λ image differs. inr differs) late));
     images = from_each a.bytes _ (λ before is.
         let early : LeavesOnly a b (IsTornRow at body before) =
-        at_some a.bytes (λ x. LeavesOnly a b (IsTornRow at body x)) before is
-        (torn_first a b at body first).images in
-        let late : LeavesOnly b c (IsTornRow at body before) = λ says image left.
-        inr ((at_some b.bytes (λ x. HasImages b c (DiffersIn at 1 x)) (patched before)
-        (content_at before is)
-        gate.images says image).0 left) in
-        LeavesOnly-trans a b c (IsTornRow at body before) first.time gate.time early late);
+        at_some a.bytes (λ x. LeavesOnly a b (IsTornRow at body x)) before is torn_before.images in
+        let Late : List ℕ → Type 0 = λ x. HasImages b c (DiffersIn at 1 x) in
+        let late : HasImages b c (DiffersIn at 1 (patched before)) =
+        at_some b.bytes Late (patched before) (content_at before is) gated.gate.images in
+        LeavesOnly-trans a b c (IsTornRow at body before) gated.first.time gated.gate.time early
+        (λ says image left. inr ((late says image).0 left)));
   }
 
-  pub done_both : IsTrue (is_ok result) → (before : List ℕ) → a.bytes ≡ Some before
+  done_both : IsTrue (is_ok result) → (before : List ℕ) → a.bytes ≡ Some before
       → at + 5 + length body ≤ length before → c.bytes ≡ Some (patch before at (row_of body))
   done_both ok before is fits =
-      at_some b.bytes (λ x. c.bytes ≡ Some (patch x at (0 ∷ [])))
-      (patch before (at + 1) (behind_gate body))
-      (content_at before is) (gate.done ok)
-      ∙ ap Some (patch_gate before at 0 (behind_gate body) (omega (arith, length-behind_gate body)))
+      let fits_behind : at + 1 + length (behind_gate body) ≤ length before =
+      omega (arith, length-behind_gate body) in
+      at_some b.bytes (λ x. c.bytes ≡ Some (patch x at (0 ∷ []))) (patched before)
+      (content_at before is) (gated.gate.done ok)
+      ∙ ap Some (patch_gate before at 0 (behind_gate body) fits_behind)
 
-  pub appends_failed : {T F : Type 0} (answer : Result T F) → IsErr answer → b.erased ≡ a.erased
-      → c.erased ≡ b.erased → AppendsRow at body a c answer
-  appends_failed answer err early late = record {
+  pub appends_failed : {T F : Type 0} (answer : Result T F) → IsErr answer
+      → AppendsRow at body a c answer
+  appends_failed answer err = record {
     done = on_err answer _ err;
     settled = on_err answer _ err;
-    erased = late ∙ early;
+    erased = gated.late ∙ gated.early;
     touches = touches_both;
   }
 
-  pub appends_done : {T F : Type 0} (x : T) → IsTrue (is_ok result) → b.erased ≡ a.erased
-      → c.erased ≡ b.erased
+  pub appends_done : {T F : Type 0} (x : T) → IsTrue (is_ok result)
       → ((before : List ℕ) → a.bytes ≡ Some before → at + 5 + length body ≤ length before)
       → AppendsRow {T = T} {E = F} at body a c (Ok x)
-  appends_done x ok early late fits = record {
+  appends_done x ok fits = record {
     done = from_each a.bytes _ (λ before is. done_both ok before is (fits before is));
-    settled = gate.settled ok;
-    erased = late ∙ early;
+    settled = gated.gate.settled ok;
+    erased = gated.late ∙ gated.early;
     touches = touches_both;
   }
 

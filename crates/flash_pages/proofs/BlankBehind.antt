@@ -5,11 +5,11 @@ use Rattle.std.proofs.Math.Seq.{take-add}
 use Rattle.flash_pages.specs.declared.bank.Bank.{Bank}
 use Rattle.flash_pages.specs.Append.{EndsAt, EndsBlank}
 use Rattle.flash_pages.specs.Bank.{start_of, end_of, bank_bytes}
-use Rattle.flash_pages.specs.Bytes.{blank, part, patch}
-use Rattle.flash_pages.specs.Rows.{row_of, rows_of, IsClosed, HasRows}
+use Rattle.flash_pages.specs.Bytes.{blank, part, patch, IsErased}
+use Rattle.flash_pages.specs.Rows.{row_of, rows_of, IsClosed, HasRows, RowsUpTo}
 use Rattle.flash_pages.proofs.Outcome.{rows_of-push, length-bank_bytes}
 use Rattle.flash_pages.proofs.Patches.{length-blank, length-patch, part-part, part-patch}
-use Rattle.flash_pages.proofs.Reading.{length-rows_of-push}
+use Rattle.flash_pages.proofs.Reading.{length-rows_of-push, split, rest_of_bank}
 use Rattle.flash_pages.proofs.RowLemmas.{length-row_of}
 
 drop-blank : (k n : ℕ) → drop k (blank n) ≡ blank (n - k)
@@ -39,6 +39,15 @@ blank-more at n m bytes first second =
     ∙ ap (λ (l : List ℕ). blank n ++ take m l) (drop-drop n at bytes)
     ∙ ap (λ (l : List ℕ). blank n ++ l) second
     ∙ sym (blank-add n m)
+
+-- rows that were read, behind which all is FF
+pub EndsBlank-read : (bytes : List ℕ) (bodies : List (List ℕ)) (place : ℕ)
+    → RowsUpTo bytes bodies place
+    → drop place bytes ≡ blank (length bytes - place) → EndsBlank bytes bodies place
+EndsBlank-read bytes bodies place so_far behind = record {
+  end = so_far.end;
+  rows = split bytes bodies place so_far (blank (length bytes - place)) behind;
+}
 
 -- an erased bank has no rows
 pub EndsBlank-blank : (bytes : List ℕ) → bytes ≡ blank (length bytes) → EndsBlank bytes [] 0
@@ -147,3 +156,17 @@ module _ (bank : Bank) (at : ℕ) (image : List ℕ) (bodies : List (List ℕ))
       λ k. EndsBlank (patch (bank_bytes bank image) place_in (row_of body))
       (bodies ++ body ∷ []) k in
       subst P (sym moved) (subst Q next appended)
+
+-- rows that were read in a bank, up to a place from which on all its bytes are FF
+pub bank-blank : (bank : Bank) (at : ℕ) (image : List ℕ) (bodies : List (List ℕ))
+    → start_of bank ≤ at
+    → at ≤ end_of bank → end_of bank ≤ length image
+    → RowsUpTo (bank_bytes bank image) bodies (at - start_of bank)
+    → IsErased at (end_of bank - at) image
+    → EndsBlank (bank_bytes bank image) bodies (at - start_of bank)
+bank-blank bank at image bodies from_start to_end inside so_far erased =
+    let size = length-bank_bytes bank image inside in
+    let left : end_of bank - at ≡ length (bank_bytes bank image) - (at - start_of bank) =
+    omega (arith, size) in
+    EndsBlank-read (bank_bytes bank image) bodies (at - start_of bank) so_far
+    (sym (rest_of_bank bank at image from_start to_end) ∙ erased ∙ ap blank left)

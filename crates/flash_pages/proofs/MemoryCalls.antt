@@ -16,11 +16,18 @@ use Rattle.flash_pages.specs.MemoryLaw.{last_ok-le, Since-now, Since-only, Since
 use Rattle.flash_pages.proofs.Patches.{length-blank, DiffersIn-refl, DiffersIn-patch}
 
 -- torn bytes, of which there are none, are FF
-pub repeated-nil : (n : ℕ) → repeated [] n ≡ blank n
+repeated-nil : (n : ℕ) → repeated [] n ≡ blank n
 unfolding repeated blank
 repeated-nil n =
     sym (fill_by_all (torn_byte []) (blank n) n 0 (length-blank n)
     (λ k lt. get_or-replicate n k 255 0 lt))
+
+-- a block torn by no bytes is erased
+pub erased_block : (old before new : List ℕ) (at : ℕ) → new ≡ patch before at (repeated [] 4096)
+    → before ≡ old → new ≡ patch old at (blank 4096)
+erased_block old before new at is same =
+    is ∙ ap (λ (l : List ℕ). patch l at (repeated [] 4096)) same
+    ∙ ap (patch old at) (repeated-nil 4096)
 
 length-range : (a n : ℕ) → length (range_with_len a n) ≡ n
 length-range a zero = refl

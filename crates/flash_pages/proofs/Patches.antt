@@ -7,6 +7,10 @@ pub length-blank : (n : ℕ) → length (blank n) ≡ n
 unfolding blank
 length-blank n = length-replicate n 255
 
+pub blank_one : 255 ∷ [] ≡ blank 1
+unfolding blank
+blank_one = refl
+
 pub DiffersIn-refl : (at n : ℕ) (bytes : List ℕ) → DiffersIn at n bytes bytes
 DiffersIn-refl at n bytes = record { before = refl; after = refl; same_length = refl }
 

@@ -6,7 +6,8 @@ use Rattle.flash_pages.specs.declared.bank.Bank.{Bank}
 use Rattle.flash_pages.specs.declared.row.RowAt.TheVariants.{Open, End, Overrun}
 use Rattle.flash_pages.specs.Bank.{start_of, end_of, bank_bytes}
 use Rattle.flash_pages.specs.Bytes.{part}
-use Rattle.flash_pages.specs.Rows.{row_of, rows_of, IsClosed, HasRows, BeginsWithRow, RowIs, RowsUpTo, ReadsAs}
+use Rattle.flash_pages.specs.Rows.{row_of, rows_of, IsClosed, HasRows, BeginsWithRow, RowIs, LiesBefore, RowsUpTo, ReadsAs}
+use Rattle.flash_pages.proofs.Patches.{part-part}
 use Rattle.flash_pages.proofs.RowLemmas.{length-row_of}
 use Rattle.flash_pages.proofs.Outcome.{rows_of-push}
 use Rattle.flash_pages.proofs.Unique.{same_row, not_closed}
@@ -163,3 +164,52 @@ are_read at bytes (body ∷ bodies) (open_row, same, more) =
     let behind = behind_row bytes body rest row_is in
     read_from bytes body bodies (row_is ∙ ap (λ (l : List ℕ). row_of body ++ l) (sym behind))
     (are_read (at + 5 + length body) (drop (5 + length body) bytes) bodies more)
+
+-- the same of a bank in a flash, as `read_row` returns its rows
+module _ (bank : Bank) (at : ℕ) (image : List ℕ) (bodies : List (List ℕ))
+    (from_start : start_of bank ≤ at)
+    (to_end : at ≤ end_of bank)
+    (so_far : RowsUpTo (bank_bytes bank image) bodies (at - start_of bank)) where
+  rest_is : part at (end_of bank - at) image ≡ drop (at - start_of bank) (bank_bytes bank image)
+  rest_is = rest_of_bank bank at image from_start to_end
+
+  pub bank-open : (here len next : ℕ)
+      → RowIs at (part at (end_of bank - at) image) (Open here len next)
+      → LiesBefore at (end_of bank) (Open here len next)
+      → (RowsUpTo (bank_bytes bank image) (bodies ++ part here len image ∷ [])
+      (next - start_of bank))
+      × (length (part here len image) ≡ len)
+  bank-open here len next row lies =
+      let place = at - start_of bank in
+      let Is : List ℕ → Type 0 = λ rest. RowIs at rest (Open here len next) in
+      let found =
+      RowsUpTo-open (bank_bytes bank image) bodies place so_far at here len next
+      (subst Is rest_is row) in
+      let there : start_of bank + (place + 5) ≡ here = omega (arith, lies.0) in
+      let next_is : place + 5 + len ≡ next - start_of bank = omega (arith, lies.0, lies.1) in
+      let is_part : part (place + 5) len (bank_bytes bank image) ≡ part here len image =
+      part-part (start_of bank) (4096 * bank.blocks) (place + 5) len image
+      (omega (arith, lies.0, lies.1, lies.2))
+      ∙ ap (λ (k : ℕ). part k len image) there in
+      let P : List ℕ → Type 0 =
+      λ b. (RowsUpTo (bank_bytes bank image) (bodies ++ b ∷ []) (next - start_of bank)) ×
+      (length b ≡ len) in
+      let Q : ℕ → Type 0 =
+      λ k. RowsUpTo (bank_bytes bank image)
+      (bodies ++ part (place + 5) len (bank_bytes bank image) ∷ []) k in
+      subst P is_part (subst Q next_is found.0, found.1)
+
+  pub bank-end : RowIs at (part at (end_of bank - at) image) End
+      → HasRows (bank_bytes bank image) bodies
+  bank-end row =
+      let Is : List ℕ → Type 0 = λ rest. RowIs at rest End in
+      RowsUpTo-end (bank_bytes bank image) bodies (at - start_of bank) so_far at
+      (subst Is rest_is row)
+
+  pub bank-overrun : (others : List (List ℕ)) → length (bank_bytes bank image) < 2 ^ 32
+      → RowIs at (part at (end_of bank - at) image) Overrun → HasRows (bank_bytes bank image) others
+      → ⊥
+  bank-overrun others small row has =
+      let Is : List ℕ → Type 0 = λ rest. RowIs at rest Overrun in
+      RowsUpTo-overrun (bank_bytes bank image) bodies (at - start_of bank) so_far at others small
+      (subst Is rest_is row) has

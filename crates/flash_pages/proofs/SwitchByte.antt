@@ -2,12 +2,12 @@
 use Rattle.std.proofs.Common.{◌≡◌, ◌⊎◌, ℕ, ◌+◌, ◌-◌, ◌*◌, ◌%◌, ◌<◌, ◌≤◌, ◌==◌, Bool, true, false, cond, get_or, List, [], ◌∷◌, ◌++◌, length, take, drop, Option, Some, None, inl, inr, zero, suc, refl, sym, ◌∙◌, ap, subst, arith, length-drop, take-append-drop}
 use Rattle.std.specs.List.{count_by}
 use Rattle.std.specs.Prelude.{slice_index}
-use Rattle.std.proofs.lemmas.List.{get_or-take, get_or-drop, length-take-le}
+use Rattle.std.proofs.lemmas.List.{get_or-take, get_or-drop, drop_more, length-take-le}
 use Rattle.std.proofs.lemmas.List.Sums.{sum_by-append, sum_by-drop_more}
 use Rattle.std.proofs.lemmas.Bool.{cases_lt, ne_eqb}
-use Rattle.flash_pages.specs.Bytes.{part, patch, DiffersIn}
+use Rattle.flash_pages.specs.Bytes.{part, patch, IsErased, DiffersIn}
 use Rattle.flash_pages.specs.Switch.{live_of, IsUsedTo, IsNextByte, SwitchesTo}
-use Rattle.flash_pages.proofs.Patches.{part-DiffersIn, drop-patch-prefix}
+use Rattle.flash_pages.proofs.Patches.{blank_one, part-DiffersIn, drop-patch-prefix}
 
 abbrev opened : ℕ → ℕ
 opened byte = cond (byte == 0) 1 0
@@ -156,3 +156,21 @@ opened_in block next before within fits =
     ∙ sym (get_or-drop (4096 * block + next) image 0 0)
     ∙ ap (λ (l : List ℕ). get_or l 0 0)
     (drop-patch-prefix before (4096 * block + next) (0 ∷ []) (omega arith))
+
+-- the next byte may be programmed
+pub next_erased : (block next : ℕ) (before : List ℕ)
+    → IsNextByte (part (4096 * block) 4096 before) (Some next)
+    → 4096 * block + 4096 ≤ length before → IsErased (4096 * block + next) 1 before
+next_erased block next before is_next fits =
+    let row = part (4096 * block) 4096 before in
+    let size : length row ≡ 4096 =
+    length-take-le 4096 (drop (4096 * block) before)
+    (omega (arith, length-drop (4096 * block) before)) in
+    let within : next < 4096 = omega (arith, is_next.0, size) in
+    let place = 4096 * block + next in
+    let here : get_or before place 0 ≡ 255 =
+    sym (get_or-drop (4096 * block) before next 0)
+    ∙ sym (get_or-take 4096 (drop (4096 * block) before) next 0 within)
+    ∙ is_next.1.rest next (omega arith) is_next.0 in
+    let there : place < length before = omega (arith, within) in
+    ap (take 1) (drop_more before place 0 there) ∙ ap (λ (byte : ℕ). byte ∷ []) here ∙ blank_one

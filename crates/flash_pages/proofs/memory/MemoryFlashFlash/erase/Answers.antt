@@ -1,13 +1,13 @@
-use Rattle.std.proofs.Common.{◌≡◌, ◌+◌, ◌*◌, ◌≤◌, ℕ, List, [], Some, Ok, true, false, length, refl, sym, ap, ◌∙◌, arith}
+use Rattle.std.proofs.Common.{◌≡◌, ◌+◌, ◌*◌, ◌≤◌, ℕ, List, Some, Ok, true, false, length, refl, sym, ap, ◌∙◌, arith}
 use Rattle.std.proofs.lemmas.Bool.{false≢true}
 use Rattle.std.proofs.lemmas.List.{with_items_is}
 use Rattle.flash_pages.specs.declared.plan.Outcome.{Outcome}
-use Rattle.flash_pages.specs.Bytes.{blank, patch, repeated}
+use Rattle.flash_pages.specs.Bytes.{blank, patch}
 use Rattle.flash_pages.specs.Left.{left_by, with_left}
 use Rattle.flash_pages.specs.Past.{Past, Write, after_call, content}
 use Rattle.flash_pages.specs.Plan.{outcome_of}
 use Rattle.flash_pages.proofs.Patches.{length-blank, length-patch}
-use Rattle.flash_pages.proofs.MemoryCalls.{IsKept, Changes-memory, kept_after, content-write, repeated-nil, left_size, is_done-is, not_ok}
+use Rattle.flash_pages.proofs.MemoryCalls.{IsKept, Changes-memory, kept_after, content-write, erased_block, left_size, is_done-is, not_ok}
 use Rattle.flash_pages.proofs.memory.MemoryFlashFlash.erase.Goals as goal
 
 pub returns-in_err-begin-clause-changes : goal.returns-in_err-begin-clause-changes
@@ -34,11 +34,9 @@ invariant_of-self-2 c =
     omega (arith, c.requires, old.sized, length-blank 4096) in
     let past_is = c.keep.ensures.past
     ∙ ap (λ (past : Past). after_call past call) c.in_ok-begin.ensures.ok.1 in
-    let erased : c.tear.new.content ≡ patch old.bytes.items at (blank 4096) =
-    c.tear.ensures
-    ∙ ap (λ (l : List ℕ). patch l at (repeated [] 4096))
-    (c.deref_mut.ensures.value ∙ c.in_ok-begin.ensures.ok.0)
-    ∙ ap (patch old.bytes.items at) (repeated-nil 4096) in
+    let erased =
+    erased_block old.bytes.items c.deref_mut.result.now c.tear.new.content at c.tear.ensures
+    (c.deref_mut.ensures.value ∙ c.in_ok-begin.ensures.ok.0) in
     let items =
     with_items_is c.begin.new.self.bytes c.tear.new.content
     (c.tear.auto.content ∙ c.deref_mut.ensures.len) ∙ erased in
@@ -61,11 +59,9 @@ returns-clause-changes c =
     let fits : at + 4096 ≤ length old.bytes.items = omega (arith, c.requires, old.sized) in
     let past_is = c.keep.ensures.past
     ∙ ap (λ (past : Past). after_call past call) c.in_ok-begin.ensures.ok.1 in
-    let erased : c.tear.new.content ≡ patch old.bytes.items at (blank 4096) =
-    c.tear.ensures
-    ∙ ap (λ (l : List ℕ). patch l at (repeated [] 4096))
-    (c.deref_mut.ensures.value ∙ c.in_ok-begin.ensures.ok.0)
-    ∙ ap (patch old.bytes.items at) (repeated-nil 4096) in
+    let erased =
+    erased_block old.bytes.items c.deref_mut.result.now c.tear.new.content at c.tear.ensures
+    (c.deref_mut.ensures.value ∙ c.in_ok-begin.ensures.ok.0) in
     let items =
     with_items_is c.begin.new.self.bytes c.tear.new.content
     (c.tear.auto.content ∙ c.deref_mut.ensures.len) ∙ erased in
@@ -81,11 +77,9 @@ pub returns-clause-left : goal.returns-clause-left
 returns-clause-left c =
     let old = c.args.self.now in
     let at = 4096 * c.args.block in
-    let erased : c.tear.new.content ≡ patch old.bytes.items at (blank 4096) =
-    c.tear.ensures
-    ∙ ap (λ (l : List ℕ). patch l at (repeated [] 4096))
-    (c.deref_mut.ensures.value ∙ c.in_ok-begin.ensures.ok.0)
-    ∙ ap (patch old.bytes.items at) (repeated-nil 4096) in
+    let erased =
+    erased_block old.bytes.items c.deref_mut.result.now c.tear.new.content at c.tear.ensures
+    (c.deref_mut.ensures.value ∙ c.in_ok-begin.ensures.ok.0) in
     let is_done = is_done-is (outcome_of old.power) (sym c.in_ok-begin.ensures.answer) in
     with_items_is c.begin.new.self.bytes c.tear.new.content
     (c.tear.auto.content ∙ c.deref_mut.ensures.len) ∙ erased
