@@ -1,5 +1,5 @@
 -- What contracts see of a flash in memory.
-use Rattle.std.specs.Prelude.{◌≡◌, ◌↔◌, ℕ, Bool, false, IsTrue, List}
+use Rattle.std.specs.Prelude.{◌≡◌, ◌↔◌, ℕ, Bool, false, IsTrue, ◌&&◌, nat_lt, if◌then◌else◌, List, Result, is_ok}
 use Rattle.flash_pages.specs.declared.memory.MemoryFlash.{MemoryFlash}
 use Rattle.flash_pages.specs.Flash.{FlashState, IsSettled}
 use Rattle.flash_pages.specs.Past.{last_ok, memory_state}
@@ -35,3 +35,13 @@ pub record LeavesImagesSince (t : ℕ) (flash : FlashState) : Type 0 where
   pub in_room : IsTrue flash.images_known → (content : List ℕ)
       → flash.may_leave content ↔ flash.images t content
   pub past_room : flash.images_known ≡ false → IsSettled flash
+
+-- A program, an erase or a restart that the flash keeps as long as there is room. From the first one
+-- past the room on the images are known no more.
+pub record RecordsCall {E : Type 0} (old new : MemoryFlash) (result : Result Unit E) : Type 0 where
+  pub known : (state_of new).images_known
+      ≡ ((state_of old).images_known && nat_lt (state_of old).moment (room_of old))
+  pub last_ok : IsTrue (state_of new).images_known
+      → last_ok_of new ≡ (if is_ok result then (state_of new).moment else last_ok_of old)
+  pub room : room_of new ≡ room_of old
+  pub torn : torn_of new ≡ torn_of old

@@ -1,4 +1,4 @@
-ghost use Rattle.std.specs.Prelude.{◌≡◌, ◌*◌, ◌<◌, ◌+◌, ℕ, List, length, IfOk, OnOk, OnErr, is_ok, IsOk, IsTrue, false, ◌&&◌, nat_lt, if◌then◌else◌};
+ghost use Rattle.std.specs.Prelude.{◌≡◌, ◌*◌, ◌<◌, ◌+◌, ℕ, List, length, IfOk, OnOk, OnErr, is_ok, IsOk, IsTrue, false};
 ghost use Rattle.port_io.specs.Faults.{FailsOnlyWhereRose, NeverFalls, one_more};
 ghost use Rattle.flash_pages.specs.Bytes.{blank, part, IsErased};
 ghost use Rattle.flash_pages.specs.Flash.{block_len, card_blocks, IsFresh, IsRange, IsPiece, Reads, Changes, Restarts};
@@ -137,7 +137,7 @@ impl MemoryFlash {
 }
 
 impl Flash for MemoryFlash {
-    ghost use Rattle.flash_pages.specs.Memory.{state_of, plan_of, bytes_of, torn_of, room_of, last_ok_of};
+    ghost use Rattle.flash_pages.specs.Memory.{state_of, plan_of, bytes_of, torn_of, room_of, last_ok_of, RecordsCall};
 
     ghost state = { state_of };
 
@@ -185,14 +185,7 @@ impl Flash for MemoryFlash {
             (plan_of self.new).faults }
         ensures answer { is_ok result ≡ is_done (outcome_of (plan_of self.old)) }
         ensures plan { plan_of self.new ≡ after_change (plan_of self.old) }
-        ensures known { (state_of self.new).images_known
-            ≡ ((state_of self.old).images_known
-            && nat_lt (state_of self.old).moment (room_of self.old)) }
-        ensures last_ok { IsTrue (state_of self.new).images_known
-            → last_ok_of self.new
-            ≡ (if is_ok result then (state_of self.new).moment else last_ok_of self.old) }
-        ensures room { room_of self.new ≡ room_of self.old }
-        ensures torn { torn_of self.new ≡ torn_of self.old }
+        ensures recorded { RecordsCall self.old self.new result }
         ensures left { bytes_of self.new
             ≡ with_left (bytes_of self.old) at
             (left_by (outcome_of (plan_of self.old)) (torn_of self.old) bytes.now) }
@@ -216,14 +209,7 @@ impl Flash for MemoryFlash {
             (plan_of self.new).faults }
         ensures answer { is_ok result ≡ is_done (outcome_of (plan_of self.old)) }
         ensures plan { plan_of self.new ≡ after_change (plan_of self.old) }
-        ensures known { (state_of self.new).images_known
-            ≡ ((state_of self.old).images_known
-            && nat_lt (state_of self.old).moment (room_of self.old)) }
-        ensures last_ok { IsTrue (state_of self.new).images_known
-            → last_ok_of self.new
-            ≡ (if is_ok result then (state_of self.new).moment else last_ok_of self.old) }
-        ensures room { room_of self.new ≡ room_of self.old }
-        ensures torn { torn_of self.new ≡ torn_of self.old }
+        ensures recorded { RecordsCall self.old self.new result }
         ensures left { bytes_of self.new ≡ with_left (bytes_of self.old) (block_len * block)
             (left_by (outcome_of (plan_of self.old)) (torn_of self.old) (blank block_len)) }
     {
@@ -241,14 +227,7 @@ impl Flash for MemoryFlash {
             (plan_of self.new).faults }
         ensures answer { IsOk result }
         ensures plan { plan_of self.new ≡ after_restart (plan_of self.old) }
-        ensures known { (state_of self.new).images_known
-            ≡ ((state_of self.old).images_known
-            && nat_lt (state_of self.old).moment (room_of self.old)) }
-        ensures last_ok { IsTrue (state_of self.new).images_known
-            → last_ok_of self.new
-            ≡ (if is_ok result then (state_of self.new).moment else last_ok_of self.old) }
-        ensures room { room_of self.new ≡ room_of self.old }
-        ensures torn { torn_of self.new ≡ torn_of self.old }
+        ensures recorded { RecordsCall self.old self.new result }
         ensures bytes { bytes_of self.new ≡ bytes_of self.old }
     {
         self.power.restart();
