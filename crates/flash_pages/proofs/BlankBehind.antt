@@ -8,7 +8,7 @@ use Rattle.flash_pages.specs.Bank.{start_of, end_of, bank_bytes}
 use Rattle.flash_pages.specs.Bytes.{blank, part, patch, IsErased}
 use Rattle.flash_pages.specs.Rows.{row_of, rows_of, IsClosed, HasRows, RowsUpTo}
 use Rattle.flash_pages.proofs.Outcome.{rows_of-push, length-bank_bytes}
-use Rattle.flash_pages.proofs.Patches.{length-blank, length-patch, part-part, part-patch}
+use Rattle.flash_pages.proofs.Patches.{length-blank, length-patch, take-patch-prefix, part_before, part-part, part-patch, part-patch_same}
 use Rattle.flash_pages.proofs.Reading.{length-rows_of-push, split, rest_of_bank}
 use Rattle.flash_pages.proofs.RowLemmas.{length-row_of}
 
@@ -39,6 +39,19 @@ blank-more at n m bytes first second =
     ∙ ap (λ (l : List ℕ). blank n ++ take m l) (drop-drop n at bytes)
     ∙ ap (λ (l : List ℕ). blank n ++ l) second
     ∙ sym (blank-add n m)
+
+-- one more part erased behind one that is
+pub erased-more : (at n m : ℕ) (bytes : List ℕ) → at + n + m ≤ length bytes → IsErased at n bytes
+    → IsErased at (n + m) (patch bytes (at + n) (blank m))
+erased-more at n m bytes fits erased =
+    let size = length-blank m in
+    let inside : at + n + length (blank m) ≤ length bytes = omega (arith, size) in
+    let new = patch bytes (at + n) (blank m) in
+    let outside = part_before at n (at + n) new bytes (omega arith)
+    (take-patch-prefix bytes (at + n) (blank m) inside) in
+    blank-more at n m new (outside ∙ erased)
+    (ap (λ (k : ℕ). part (at + n) k new) (sym size)
+    ∙ part-patch_same bytes (at + n) (blank m) inside)
 
 -- rows that were read, behind which all is FF
 pub EndsBlank-read : (bytes : List ℕ) (bodies : List (List ℕ)) (place : ℕ)

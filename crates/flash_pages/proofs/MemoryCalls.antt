@@ -5,14 +5,14 @@ use Rattle.std.proofs.lemmas.Bool.{false≢true}
 use Rattle.std.proofs.lemmas.List.{get_or-replicate, length-map}
 use Rattle.std.proofs.lemmas.List.FromFn.{fill_by_all}
 use Rattle.flash_pages.specs.Bytes.{blank, patch, DiffersIn, torn_byte, repeated}
-use Rattle.flash_pages.specs.Flash.{IsSettled, MayLeaveOnly, AddsOnly, GoesOn, Reads, Changes, Restarts}
+use Rattle.flash_pages.specs.Flash.{IsSettled, MayLeaveOnly, GoesOn, Reads, Changes, Restarts}
 use Rattle.flash_pages.specs.declared.plan.Outcome.{Outcome}
 use Rattle.flash_pages.specs.declared.plan.Outcome.TheVariants.{Done, Torn, Off}
 use Rattle.flash_pages.specs.Left.{left_by, with_left}
 use Rattle.flash_pages.specs.Memory.{LeavesImagesSince}
 use Rattle.flash_pages.specs.Plan.{is_done}
 use Rattle.flash_pages.specs.Past.{Call, Write, Restarted, content, last_ok, Since, Past, MayLeave, after_call, memory_state}
-use Rattle.flash_pages.specs.MemoryLaw.{last_ok-le, Since-now, Since-only, Since-earlier}
+use Rattle.flash_pages.specs.MemoryLaw.{Since-now, Since-only}
 use Rattle.flash_pages.proofs.Patches.{length-blank, DiffersIn-refl, DiffersIn-patch}
 
 -- torn bytes, of which there are none, are FF

@@ -1,12 +1,12 @@
 -- What a byte at the next place of a switch row makes of it.
-use Rattle.std.proofs.Common.{◌≡◌, ◌⊎◌, ℕ, ◌+◌, ◌-◌, ◌*◌, ◌%◌, ◌<◌, ◌≤◌, ◌==◌, Bool, true, false, cond, get_or, List, [], ◌∷◌, ◌++◌, length, take, drop, Option, Some, None, inl, inr, zero, suc, refl, sym, ◌∙◌, ap, subst, arith, length-drop, take-append-drop}
+use Rattle.std.proofs.Common.{◌≡◌, ℕ, ◌+◌, ◌-◌, ◌*◌, ◌%◌, ◌<◌, ◌≤◌, ◌==◌, Bool, cond, get_or, List, [], ◌∷◌, ◌++◌, length, take, drop, Option, Some, None, inl, inr, refl, sym, ◌∙◌, ap, subst, arith, length-drop, take-append-drop}
 use Rattle.std.specs.List.{count_by}
 use Rattle.std.specs.Prelude.{slice_index}
 use Rattle.std.proofs.lemmas.List.{get_or-take, get_or-drop, drop_more, length-take-le}
 use Rattle.std.proofs.lemmas.List.Sums.{sum_by-append, sum_by-drop_more}
 use Rattle.std.proofs.lemmas.Bool.{cases_lt, ne_eqb}
 use Rattle.flash_pages.specs.Bytes.{part, patch, IsErased, DiffersIn}
-use Rattle.flash_pages.specs.Switch.{live_of, IsUsedTo, IsNextByte, SwitchesTo}
+use Rattle.flash_pages.specs.Switch.{IsUsedTo, IsNextByte, SwitchesTo}
 use Rattle.flash_pages.proofs.Patches.{blank_one, part-DiffersIn, drop-patch-prefix}
 
 abbrev opened : ℕ → ℕ

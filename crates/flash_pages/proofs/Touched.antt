@@ -2,7 +2,7 @@
 use Rattle.std.proofs.Common.{◌≡◌, ◌⊎◌, inl, inr, ⊎_elim, ℕ, ◌+◌, ◌*◌, ◌≤◌, IsTrue, List, length, Option, Some, None, IsSome, IfSome, Result, refl, sym, ◌∙◌, subst, arith}
 use Rattle.std.proofs.lemmas.Bool.{false≢true}
 use Rattle.flash_pages.specs.Bytes.{DiffersIn}
-use Rattle.flash_pages.specs.Flash.{FlashState, block_len, IsFlash, MayLeaveOnly, GoesOn, LeavesOnly, AddsOnly, Changes, Touches}
+use Rattle.flash_pages.specs.Flash.{FlashState, block_len, IsFlash, GoesOn, LeavesOnly, AddsOnly, Changes, Touches}
 use Rattle.flash_pages.proofs.Patches.{DiffersIn-refl, DiffersIn-trans, DiffersIn-wider}
 
 -- what holds where something is known holds of what is known

@@ -1,5 +1,5 @@
 -- What contracts see of a flash in memory.
-use Rattle.std.specs.Prelude.{◌≡◌, ◌↔◌, ℕ, Bool, false, IsTrue, ◌&&◌, nat_lt, if◌then◌else◌, List, Result, is_ok}
+use Rattle.std.specs.Prelude.{◌≡◌, ◌↔◌, ℕ, false, IsTrue, ◌&&◌, nat_lt, if◌then◌else◌, List, Result, is_ok}
 use Rattle.flash_pages.specs.declared.memory.MemoryFlash.{MemoryFlash}
 use Rattle.flash_pages.specs.Flash.{FlashState, IsSettled}
 use Rattle.flash_pages.specs.Past.{last_ok, memory_state}

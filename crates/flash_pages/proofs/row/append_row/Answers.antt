@@ -1,4 +1,4 @@
-use Rattle.std.proofs.Common.{◌≡◌, ◌+◌, ◌≤◌, ◌∙◌, ap, sym, List, ℕ, Some, length, refl, rules}
+use Rattle.std.proofs.Common.{◌≡◌, ◌+◌, ◌∙◌, ap, sym, List, ℕ, Some, length, refl, rules}
 use Rattle.flash_pages.specs.Bytes.{part, patch}
 use Rattle.flash_pages.specs.Rows.{behind_gate}
 use Rattle.flash_pages.proofs.Touched.{at_some, from_each, known_before, same_some}

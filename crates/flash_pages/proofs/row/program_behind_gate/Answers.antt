@@ -1,4 +1,4 @@
-use Rattle.std.proofs.Common.{◌≡◌, ◌+◌, ◌≤◌, ◌∙◌, length, take, subst, refl, arith, ℕ, Some, IfSome}
+use Rattle.std.proofs.Common.{◌≡◌, ◌+◌, ◌∙◌, length, take, subst, refl, arith, ℕ, Some, IfSome}
 use Rattle.std.proofs.lemmas.List.{length-take-le}
 use Rattle.flash_pages.specs.Bytes.{patch}
 use Rattle.flash_pages.specs.Rows.{behind_gate}

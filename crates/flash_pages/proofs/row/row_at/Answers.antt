@@ -1,4 +1,4 @@
-use Rattle.std.proofs.Common.{◌≡◌, ◌≤◌, ◌-◌, length, get_or, drop, refl, arith, length-drop, rules}
+use Rattle.std.proofs.Common.{◌≡◌, ◌≤◌, length, get_or, drop, refl, arith, length-drop, rules}
 use Rattle.flash_pages.proofs.RowLemmas.{opens_at}
 use Rattle.flash_pages.proofs.row.row_at.Goals as goal
 

@@ -1,10 +1,10 @@
-use Rattle.std.proofs.Common.{◌≡◌, ◌+◌, ◌*◌, ◌≤◌, ℕ, List, Some, Ok, true, false, length, refl, sym, ap, ◌∙◌, arith}
+use Rattle.std.proofs.Common.{◌+◌, ◌*◌, ◌≤◌, ℕ, List, Some, Ok, true, false, length, refl, sym, ap, ◌∙◌, arith}
 use Rattle.std.proofs.lemmas.Bool.{false≢true}
 use Rattle.std.proofs.lemmas.List.{with_items_is}
 use Rattle.flash_pages.specs.declared.plan.Outcome.{Outcome}
 use Rattle.flash_pages.specs.Bytes.{blank, patch}
 use Rattle.flash_pages.specs.Left.{left_by, with_left}
-use Rattle.flash_pages.specs.Past.{Past, Write, after_call, content}
+use Rattle.flash_pages.specs.Past.{Past, Write, after_call}
 use Rattle.flash_pages.specs.Plan.{outcome_of}
 use Rattle.flash_pages.proofs.Patches.{length-blank, length-patch}
 use Rattle.flash_pages.proofs.MemoryCalls.{IsKept, Changes-memory, kept_after, content-write, erased_block, left_size, is_done-is, not_ok}
