@@ -1,9 +1,10 @@
 -- What contracts see of a flash in memory.
 use Rattle.std.specs.Prelude.{◌≡◌, ◌↔◌, ℕ, false, IsTrue, ◌&&◌, nat_lt, if◌then◌else◌, List, Result, is_ok}
 use Rattle.flash_pages.specs.declared.memory.MemoryFlash.{MemoryFlash}
-use Rattle.flash_pages.specs.Flash.{FlashState, IsSettled}
+use Rattle.flash_pages.specs.declared.plan.FlashPlan.{FlashPlan}
+use Rattle.flash_pages.specs.Flash.{FlashState, IsFresh, IsSettled}
 use Rattle.flash_pages.specs.Past.{last_ok, memory_state}
-use Rattle.flash_pages.specs.Plan.{Plan}
+use Rattle.flash_pages.specs.Plan.{Plan, planned}
 
 abbrev pub state_of : MemoryFlash → FlashState
 state_of flash =
@@ -24,6 +25,13 @@ torn_of flash = flash.history.torn
 -- for how many calls there is room
 abbrev pub room_of : MemoryFlash → ℕ
 room_of flash = flash.history.past.room
+
+-- it was made with these bytes, by this plan
+pub record IsMade (held : List ℕ) (plan : FlashPlan) (flash : MemoryFlash) : Type 0 where
+  pub fresh : IsFresh held (state_of flash)
+  pub plan_is : plan_of flash ≡ planned plan.fail.items plan.fail_reads.items plan.cut
+  pub torn : torn_of flash ≡ plan.torn.items
+  pub room : room_of flash ≡ plan.kept
 
 -- the moment of the last Ok of a program, an erase or a restart, or at which the flash was made
 abbrev pub last_ok_of : MemoryFlash → ℕ

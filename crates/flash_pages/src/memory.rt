@@ -1,7 +1,7 @@
 ghost use Rattle.std.specs.Prelude.{◌≡◌, ◌*◌, ◌<◌, ◌+◌, ℕ, List, length, IfOk, OnOk, OnErr, is_ok, IsOk, IsTrue, false};
 ghost use Rattle.port_io.specs.Faults.{FailsOnlyWhereRose, NeverFalls, one_more};
 ghost use Rattle.flash_pages.specs.Bytes.{blank, part, IsErased};
-ghost use Rattle.flash_pages.specs.Flash.{block_len, card_blocks, IsFresh, IsRange, IsPiece, Reads, Changes, Restarts};
+ghost use Rattle.flash_pages.specs.Flash.{block_len, card_blocks, IsRange, IsPiece, Reads, Changes, Restarts};
 ghost use Rattle.flash_pages.specs.Left.{left_by, with_left};
 ghost use Rattle.flash_pages.specs.Past.{content, after_call, Since, Write};
 ghost use Rattle.flash_pages.specs.MemoryLaw.{IsFlash-memory};
@@ -15,7 +15,7 @@ use arrayvec::ArrayVec;
 use port_io::Failed;
 use std::alloc::{AllocError as NoMemory, Global};
 
-/// A flash in memory, blank at first. A call fails exactly where its plan says so.
+/// A flash in memory, made blank or with given bytes. A call fails exactly where its plan says so.
 #[derive(Drop)]
 pub struct MemoryFlash {
     bytes: Vec<u8>,
@@ -34,18 +34,12 @@ pub struct MemoryFlash {
 impl MemoryFlash {
     ghost use Rattle.std.specs.Option.{option_map};
     ghost use Rattle.flash_pages.specs.Kept.{first_of};
-    ghost use Rattle.flash_pages.specs.Memory.{state_of, plan_of, torn_of, room_of};
-    ghost use Rattle.flash_pages.specs.Plan.{planned};
+    ghost use Rattle.flash_pages.specs.Memory.{IsMade};
 
     /// Makes a blank flash. The plan's vectors are its own from then on. Takes the memory of the
     /// whole flash, and the room for the plan's number of kept calls.
     pub fn new(alloc: Global, plan: FlashPlan) -> Result<Self, NoMemory>
-        ensures fresh { IfOk result
-            (λ flash. IsFresh (blank (block_len * card_blocks)) (state_of flash)) }
-        ensures plan { IfOk result (λ flash. plan_of flash
-            ≡ planned plan.fail.items plan.fail_reads.items plan.cut) }
-        ensures torn { IfOk result (λ flash. torn_of flash ≡ plan.torn.items) }
-        ensures room { IfOk result (λ flash. room_of flash ≡ plan.kept) }
+        ensures { IfOk result (IsMade (blank (block_len * card_blocks)) plan) }
     {
         let bytes = erased_bytes(alloc, FLASH_LEN as usize)?;
         Self::starting(alloc, bytes, None, plan)
@@ -56,11 +50,7 @@ impl MemoryFlash {
     /// and the room for the plan's number of kept calls.
     pub fn holding(alloc: Global, bytes: &[u8], plan: FlashPlan) -> Result<Self, NoMemory>
         requires { length bytes.now ≡ block_len * card_blocks }
-        ensures fresh { IfOk result (λ flash. IsFresh bytes.now (state_of flash)) }
-        ensures plan { IfOk result (λ flash. plan_of flash
-            ≡ planned plan.fail.items plan.fail_reads.items plan.cut) }
-        ensures torn { IfOk result (λ flash. torn_of flash ≡ plan.torn.items) }
-        ensures room { IfOk result (λ flash. room_of flash ≡ plan.kept) }
+        ensures { IfOk result (IsMade bytes.now plan) }
     {
         let first = bytes.to_vec(alloc)?;
         Self::starting(alloc, bytes.to_vec(alloc)?, Some(first), plan)
@@ -75,11 +65,7 @@ impl MemoryFlash {
     ) -> Result<Self, NoMemory>
         requires first { first_of (option_map (λ v. v.items) first) ≡ bytes.items }
         requires size { length bytes.items ≡ block_len * card_blocks }
-        ensures fresh { IfOk result (λ flash. IsFresh bytes.items (state_of flash)) }
-        ensures plan { IfOk result (λ flash. plan_of flash
-            ≡ planned plan.fail.items plan.fail_reads.items plan.cut) }
-        ensures torn { IfOk result (λ flash. torn_of flash ≡ plan.torn.items) }
-        ensures room { IfOk result (λ flash. room_of flash ≡ plan.kept) }
+        ensures { IfOk result (IsMade bytes.items plan) }
     {
         let FlashPlan {
             fail,
