@@ -10,7 +10,8 @@ use Rattle.flash_pages.proofs.Patches.{drop-patch, patch-patch, part-blank}
 use Rattle.flash_pages.proofs.Touched.{at_some, from_each, known_before, same_some, flash_size, Touches-wider, Touches-trans, Touches-from_changes}
 
 -- b is a after some pieces of this list, and these bytes are the next one
-pub record IsNextPiece (blocks : ℕ) (a b : FlashState) (place done len : ℕ) (tail bytes : List ℕ) : Type 0 where
+pub record IsNextPiece (blocks : ℕ) (a b : FlashState) (place done len : ℕ)
+    (tail bytes : List ℕ) : Type 0 where
   pub lawful : IsFlash blocks a
   pub size : length tail ≡ len
   pub inside : IsRange blocks place len
@@ -20,21 +21,24 @@ pub record IsNextPiece (blocks : ℕ) (a b : FlashState) (place done len : ℕ) 
   pub content : IfSome a.bytes (λ before. b.bytes ≡ Some (patch before place (take done tail)))
 
 -- a piece that was filled into the first bytes of a buffer
-pub next_piece : (blocks : ℕ) (a b : FlashState) (place done n : ℕ) (body buffer bytes : List ℕ) → IsFlash blocks a
+pub next_piece : (blocks : ℕ) (a b : FlashState) (place done n : ℕ) (body buffer bytes : List ℕ)
+    → IsFlash blocks a
     → IsRange blocks place (4 + length body) → n ≤ length buffer → done + n ≤ 4 + length body
-    → length bytes ≡ length (take n buffer) → bytes ≡ part done (length (take n buffer)) (behind_gate body)
+    → length bytes ≡ length (take n buffer)
+    → bytes ≡ part done (length (take n buffer)) (behind_gate body)
     → Touches place (4 + length body) a b
     → IfSome a.bytes (λ before. b.bytes ≡ Some (patch before place (take done (behind_gate body))))
     → IsNextPiece blocks a b place done (4 + length body) (behind_gate body) bytes
-next_piece blocks a b place done n body buffer bytes lawful inside enough within long is touches content = record {
-  lawful = lawful;
-  size = length-behind_gate body;
-  inside = inside;
-  within = omega (arith, within, long, length-take-le n buffer enough);
-  is_part = is ∙ ap (λ (k : ℕ). part done k (behind_gate body)) (sym long);
-  touches = touches;
-  content = content;
-}
+next_piece blocks a b place done n body buffer bytes lawful inside enough within long is touches
+    content = record {
+      lawful = lawful;
+      size = length-behind_gate body;
+      inside = inside;
+      within = omega (arith, within, long, length-take-le n buffer enough);
+      is_part = is ∙ ap (λ (k : ℕ). part done k (behind_gate body)) (sym long);
+      touches = touches;
+      content = content;
+    }
 
 module _ (blocks : ℕ) (a b : FlashState) (place done len : ℕ) (tail bytes : List ℕ)
     (piece : IsNextPiece blocks a b place done len tail bytes) where

@@ -44,8 +44,8 @@ pub record LeavesImagesSince (t : ℕ) (flash : FlashState) : Type 0 where
       → flash.may_leave content ↔ flash.images t content
   pub past_room : flash.images_known ≡ false → IsSettled flash
 
--- A program, an erase or a restart that the flash keeps as long as there is room. From the first one
--- past the room on the images are known no more.
+-- A program, an erase or a restart that the flash keeps as long as there is room. From the first
+-- one past the room on the images are known no more.
 pub record RecordsCall {E : Type 0} (old new : MemoryFlash) (result : Result Unit E) : Type 0 where
   pub known : (state_of new).images_known
       ≡ ((state_of old).images_known && nat_lt (state_of old).moment (room_of old))

@@ -13,7 +13,8 @@ program-requires-clause-erased g c =
     let piece =
     next_piece 2433 _ _ c.args.place c.pieces.done c.piece_len-n.result body c.pieces.buffer
     c.fill_behind_gate.new.out (g.met.F.Flash.lawful c.args.flash.now) c.requires.fits
-    (omega (arith, n.at_most)) (omega (arith, n.within, c.len-len.ensures)) c.fill_behind_gate.auto.out
+    (omega (arith, n.at_most))
+    (omega (arith, n.within, c.len-len.ensures)) c.fill_behind_gate.auto.out
     c.fill_behind_gate.ensures was.touches was.content in
     next_erased 2433 _ _ _ _ _ _ _ piece c.requires.erased
 
@@ -25,7 +26,8 @@ returns-in_err-program-clause-touches g c =
     let piece =
     next_piece 2433 _ _ c.args.place c.pieces.done c.piece_len-n.result body c.pieces.buffer
     c.fill_behind_gate.new.out (g.met.F.Flash.lawful c.args.flash.now) c.requires.fits
-    (omega (arith, n.at_most)) (omega (arith, n.within, c.len-len.ensures)) c.fill_behind_gate.auto.out
+    (omega (arith, n.at_most))
+    (omega (arith, n.within, c.len-len.ensures)) c.fill_behind_gate.auto.out
     c.fill_behind_gate.ensures was.touches was.content in
     next_touches 2433 _ _ _ _ _ _ _ piece _ _ (g.met.F.Flash.lawful c.program.new.self)
     c.program.ensures.changes
@@ -40,7 +42,8 @@ pieces-preserved g c =
     let piece =
     next_piece 2433 _ _ c.args.place c.pieces.done c.piece_len-n.result body c.pieces.buffer
     c.fill_behind_gate.new.out (g.met.F.Flash.lawful c.args.flash.now) c.requires.fits
-    (omega (arith, n.at_most)) (omega (arith, n.within, c.len-len.ensures)) c.fill_behind_gate.auto.out
+    (omega (arith, n.at_most))
+    (omega (arith, n.within, c.len-len.ensures)) c.fill_behind_gate.auto.out
     c.fill_behind_gate.ensures was.touches was.content in
     let lawful = g.met.F.Flash.lawful c.program.new.self in
     let taken : length (take c.piece_len-n.result c.pieces.buffer) ≡ c.piece_len-n.result =
