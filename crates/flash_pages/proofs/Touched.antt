@@ -1,122 +1,192 @@
 -- How a run of calls on a flash goes on.
-use Rattle.std.proofs.Common.{◌≡◌, ◌⊎◌, inl, inr, ⊎_elim, ℕ, ◌+◌, ◌≤◌, IsTrue, List, length, Option, Some, None, IsSome, IfSome, Result, refl, sym, ◌∙◌, subst, arith}
+use Rattle.std.proofs.Common.{◌≡◌, ◌⊎◌, inl, inr, ⊎_elim, ℕ, ◌+◌, ◌*◌, ◌≤◌, IsTrue, List, length, Option, Some, None, IsSome, IfSome, Result, refl, sym, ◌∙◌, subst, arith}
 use Rattle.std.proofs.lemmas.Bool.{false≢true}
 use Rattle.flash_pages.specs.Bytes.{DiffersIn}
-use Rattle.flash_pages.specs.Flash.{FlashState, IsFlash, IsSettled, GoesOn, LeavesOnly, Changes, Restarts, Touches}
+use Rattle.flash_pages.specs.Flash.{FlashState, block_len, IsFlash, GoesOn, LeavesOnly, AddsOnly, Changes, Touches}
 use Rattle.flash_pages.proofs.Patches.{DiffersIn-refl, DiffersIn-trans, DiffersIn-wider}
 
--- what holds where something is told holds of what is told
+-- what holds where something is known holds of what is known
 pub at_some : {T : Type 0} (o : Option T) (P : T → Type 0) (x : T) → o ≡ Some x → IfSome o P → P x
 at_some {T} o P x is holds = let Q : Option T → Type 0 = λ r. IfSome r P in subst Q is holds
 
-pub from_each : {T : Type 0} (o : Option T) (P : T → Type 0) → ((x : T) → o ≡ Some x → P x) → IfSome o P
+pub from_each : {T : Type 0} (o : Option T) (P : T → Type 0) → ((x : T) → o ≡ Some x → P x)
+    → IfSome o P
 from_each None P each = tt
 from_each (Some x) P each = each x refl
 
--- what is told
-pub told : {T : Type 0} (o : Option T) → IsSome o → (x : T) × (o ≡ Some x)
-told None some = absurd (false≢true some)
-told (Some x) some = (x, refl)
+-- what is known
+pub known : {T : Type 0} (o : Option T) → IsSome o → (x : T) × (o ≡ Some x)
+known None some = absurd (false≢true some)
+known (Some x) some = (x, refl)
 
-pub is_told : {T : Type 0} (o : Option T) (x : T) → o ≡ Some x → IsSome o
-is_told {T} o x is = let Q : Option T → Type 0 = λ r. IsSome r in subst Q (sym is) refl
+pub is_known : {T : Type 0} (o : Option T) (x : T) → o ≡ Some x → IsSome o
+is_known {T} o x is = let Q : Option T → Type 0 = λ r. IsSome r in subst Q (sym is) refl
+
+pub same_some : (x y : List ℕ) → Some x ≡ Some y → x ≡ y
+same_some x y is = cc
+
+-- what reads return has the flash's length
+pub flash_size : (blocks : ℕ) (s : FlashState) → IsFlash blocks s → (bytes : List ℕ)
+    → s.bytes ≡ Some bytes
+    → length bytes ≡ block_len * blocks
+flash_size blocks s lawful bytes is =
+    lawful.sizes (is_known s.bytes bytes is) bytes
+    (at_some s.bytes s.may_leave bytes is lawful.may_stay)
 
 -- before the first call
 pub GoesOn-refl : (s : FlashState) → GoesOn s s
 GoesOn-refl s = record {
   later = omega arith;
-  bytes_told = (λ some. some, λ some. some);
-  images_told = λ says. says;
+  bytes_known = (λ some. some, λ some. some);
+  images_known = λ says. says;
   images = λ says. record { keeps = λ t image le left. left; adds = λ t image le left. inl left };
-  last_ok = inl refl;
   programmed = omega arith;
   erased = omega arith;
   faults = omega arith;
 }
 
 -- one call after another
-pub GoesOn-trans : (a b c : FlashState) → IsFlash c → GoesOn a b → GoesOn b c → GoesOn a c
-GoesOn-trans a b c lawful p q = record {
+pub GoesOn-trans : (blocks : ℕ) (a b c : FlashState) → IsFlash blocks c → GoesOn a b → GoesOn b c
+    → GoesOn a c
+GoesOn-trans blocks a b c lawful p q = record {
   later = omega (arith, p.later, q.later);
-  bytes_told = (λ some. q.bytes_told.0 (p.bytes_told.0 some), λ some. p.bytes_told.1 (q.bytes_told.1 some));
-  images_told = λ says. p.images_told (q.images_told says);
+  bytes_known = (
+    λ some. q.bytes_known.0 (p.bytes_known.0 some),
+    λ some. p.bytes_known.1 (q.bytes_known.1 some),
+  );
+  images_known = λ says. p.images_known (q.images_known says);
   images = λ says. record { keeps = keeps says; adds = adds says };
-  last_ok = last_ok;
   programmed = omega (arith, p.programmed, q.programmed);
   erased = omega (arith, p.erased, q.erased);
   faults = omega (arith, p.faults, q.faults);
 }
   where
-    keeps : IsTrue c.images_told → (t : ℕ) (image : List ℕ) → t ≤ a.moment → a.images t image → c.images t image
-    keeps says t image le left = (q.images says).keeps t image (omega (arith, le, p.later)) ((p.images (q.images_told says)).keeps t image le left)
+    keeps : IsTrue c.images_known → (t : ℕ) (image : List ℕ) → t ≤ a.moment → a.images t image
+        → c.images t image
+    keeps says t image le left =
+        (q.images says).keeps t image (omega (arith, le, p.later))
+        ((p.images (q.images_known says)).keeps t image le left)
 
-    adds : IsTrue c.images_told → (t : ℕ) (image : List ℕ) → t ≤ a.moment → c.images t image → a.images t image ⊎ c.images a.moment image
+    adds : IsTrue c.images_known → (t : ℕ) (image : List ℕ) → t ≤ a.moment → c.images t image
+        → a.images t image ⊎ c.images a.moment image
     adds says t image le left =
         ⊎_elim
-        (λ was. ⊎_elim (λ before. inl before) (λ between. inr ((q.images says).keeps a.moment image p.later between)) ((p.images (q.images_told says)).adds t image le was))
+        (λ was. ⊎_elim
+        (λ before. inl before)
+        (λ between. inr ((q.images says).keeps a.moment image p.later between))
+        ((p.images (q.images_known says)).adds t image le was))
         (λ since. inr ((lawful.moments says).earlier a.moment b.moment image p.later since))
         ((q.images says).adds t image (omega (arith, le, p.later)) left)
 
-    last_ok : (c.last_ok ≡ a.last_ok) ⊎ (a.moment ≤ c.last_ok)
-    last_ok = ⊎_elim (λ same. ⊎_elim (λ as_before. inl (same ∙ as_before)) (λ later. inr (omega (arith, same, later))) p.last_ok) (λ later. inr (omega (arith, later, p.later))) q.last_ok
+-- what the flash held before, where it is known now
+pub known_before : (a b : FlashState) → GoesOn a b → (x : List ℕ) → b.bytes ≡ Some x
+    → (y : List ℕ) × (a.bytes ≡ Some y)
+known_before a b time x is = known a.bytes (time.bytes_known.1 (is_known b.bytes x is))
 
-pub Touches-refl : (at n : ℕ) (s : FlashState) → IsFlash s → Touches at n s s
-Touches-refl at n s lawful = record {
+pub known_after : (a b : FlashState) → GoesOn a b → (x : List ℕ) → a.bytes ≡ Some x
+    → (y : List ℕ) × (b.bytes ≡ Some y)
+known_after a b time x is = known b.bytes (time.bytes_known.0 (is_known a.bytes x is))
+
+-- P holds of each image since a, by way of b
+pub LeavesOnly-trans : (a b c : FlashState) (P : List ℕ → Type 0) → GoesOn a b → GoesOn b c
+    → LeavesOnly a b P → LeavesOnly b c P → LeavesOnly a c P
+LeavesOnly-trans a b c P p q first second says image left =
+    ⊎_elim (λ was. first (q.images_known says) image was) (λ since. second says image since)
+    ((q.images says).adds a.moment image p.later left)
+
+-- P holds of each content that a restart may leave after two calls and might not before
+pub AddsOnly-trans : (a b c : FlashState) (P : List ℕ → Type 0) → GoesOn b c → AddsOnly a b P
+    → AddsOnly b c P
+    → AddsOnly a c P
+AddsOnly-trans a b c P q first second some content left =
+    ⊎_elim (λ was. first (q.bytes_known.1 some) content was) (λ new. inr new)
+    (second some content left)
+
+-- the same of what has P in another way
+pub AddsOnly-weaken : (a b : FlashState) (P Q : List ℕ → Type 0)
+    → ((content : List ℕ) → P content → Q content)
+    → AddsOnly a b P → AddsOnly a b Q
+AddsOnly-weaken a b P Q then adds some content left =
+    ⊎_elim (λ was. inl was) (λ new. inr (then content new)) (adds some content left)
+
+pub Touches-refl : (blocks at n : ℕ) (s : FlashState) → IsFlash blocks s → Touches at n s s
+Touches-refl blocks at n s lawful = record {
   time = GoesOn-refl s;
-  bytes = from_each s.bytes _ (λ before is. from_each s.bytes _ (λ now is_now. same before now (sym is ∙ is_now)));
-  images = from_each s.bytes _ (λ before is says image left. same before image (sym is ∙ (lawful.moments says).only_now image left));
+  bytes = from_each s.bytes _
+      (λ before is. from_each s.bytes _ (λ now is_now. same before now (sym is ∙ is_now)));
+  may_leave = from_each s.bytes _ (λ before is some content left. inl left);
+  images = from_each s.bytes _
+      (λ before is says image left. same before image
+      (sym is ∙ (lawful.moments says).only_now image left));
 }
   where
     same : (before now : List ℕ) → Some before ≡ Some now → DiffersIn at n before now
-    same before now is = let equal : before ≡ now = cc in subst (DiffersIn at n before) equal (DiffersIn-refl at n before)
+    same before now is =
+        let equal : before ≡ now = cc in
+        subst (DiffersIn at n before) equal (DiffersIn-refl at n before)
 
-pub Touches-wider : (at n at' n' : ℕ) (a b : FlashState) → at' ≤ at → at + n ≤ at' + n' → Touches at n a b → Touches at' n' a b
+pub Touches-wider : (at n at' n' : ℕ) (a b : FlashState) → at' ≤ at → at + n ≤ at' + n'
+    → Touches at n a b
+    → Touches at' n' a b
 Touches-wider at n at' n' a b below above p = record {
   time = p.time;
-  bytes = from_each a.bytes _ (λ before is. from_each b.bytes _ (λ now is_now. DiffersIn-wider at n at' n' before now below above (at_some b.bytes _ now is_now (at_some a.bytes _ before is p.bytes))));
-  images = from_each a.bytes _ (λ before is says image left. DiffersIn-wider at n at' n' before image below above (at_some a.bytes (λ x. LeavesOnly a b (DiffersIn at n x)) before is p.images says image left));
+  bytes = from_each a.bytes _ (λ before is. from_each b.bytes _
+      (λ now is_now. wider before now
+      (at_some b.bytes _ now is_now (at_some a.bytes _ before is p.bytes))));
+  may_leave = from_each a.bytes _ (λ before is. AddsOnly-weaken a b _ _ (wider before)
+      (at_some a.bytes (λ x. AddsOnly a b (DiffersIn at n x)) before is p.may_leave));
+  images = from_each a.bytes _ (λ before is says image left. wider before image
+      (at_some a.bytes
+      (λ x. LeavesOnly a b (DiffersIn at n x)) before is p.images says image left));
 }
+  where
+    wider : (before image : List ℕ) → DiffersIn at n before image → DiffersIn at' n' before image
+    wider before image differs = DiffersIn-wider at n at' n' before image below above differs
 
-pub Touches-from_changes : {E : Type 0} (at : ℕ) (bytes : List ℕ) (a b : FlashState) (result : Result Unit E) → Changes at bytes a b result → Touches at (length bytes) a b
+pub Touches-from_changes : {E : Type 0} (at : ℕ) (bytes : List ℕ) (a b : FlashState)
+    (result : Result Unit E)
+    → Changes at bytes a b result → Touches at (length bytes) a b
 Touches-from_changes at bytes a b result p = record {
   time = p.time;
   bytes = p.torn;
-  images = from_each a.bytes _ (λ before is says image left. (at_some a.bytes _ before is p.images says image).0 left);
+  may_leave = p.may_leave;
+  images = from_each a.bytes _
+      (λ before is says image left. (at_some a.bytes _ before is p.images says image).0 left);
 }
 
--- P holds of each image since a, by way of b
-pub LeavesOnly-trans : (a b c : FlashState) (P : List ℕ → Type 0) → GoesOn a b → GoesOn b c → LeavesOnly a b P → LeavesOnly b c P → LeavesOnly a c P
-LeavesOnly-trans a b c P p q first second says image left =
-    ⊎_elim (λ was. first (q.images_told says) image was) (λ since. second says image since) ((q.images says).adds a.moment image p.later left)
-
-pub Touches-trans : (at n : ℕ) (a b c : FlashState) → IsFlash c → Touches at n a b → Touches at n b c → Touches at n a c
-Touches-trans at n a b c lawful p q = record {
-  time = GoesOn-trans a b c lawful p.time q.time;
+pub Touches-trans : (blocks at n : ℕ) (a b c : FlashState) → IsFlash blocks c → Touches at n a b
+    → Touches at n b c
+    → Touches at n a c
+Touches-trans blocks at n a b c lawful p q = record {
+  time = GoesOn-trans blocks a b c lawful p.time q.time;
   bytes = from_each a.bytes _ (λ before is. from_each c.bytes _ (λ now is_now.
-      let mid = told b.bytes (p.time.bytes_told.0 (is_told a.bytes before is)) in
-      DiffersIn-trans at n before mid.0 now (at_some b.bytes _ mid.0 mid.1 (at_some a.bytes _ before is p.bytes)) (at_some c.bytes _ now is_now (at_some b.bytes _ mid.0 mid.1 q.bytes))));
+      let mid = known_after a b p.time before is in
+      DiffersIn-trans at n before mid.0 now (between before is mid.0 mid.1)
+      (at_some c.bytes _ now is_now (at_some b.bytes _ mid.0 mid.1 q.bytes))));
+  may_leave = from_each a.bytes _ (λ before is.
+      let mid = known_after a b p.time before is in
+      let first : AddsOnly a b (DiffersIn at n before) =
+      at_some a.bytes (λ x. AddsOnly a b (DiffersIn at n x)) before is p.may_leave in
+      let later : AddsOnly b c (DiffersIn at n mid.0) =
+      at_some b.bytes (λ x. AddsOnly b c (DiffersIn at n x)) mid.0 mid.1 q.may_leave in
+      AddsOnly-trans a b c (DiffersIn at n before) q.time first
+      (AddsOnly-weaken b c _ _ (further before is mid.0 mid.1) later));
   images = from_each a.bytes _ (λ before is.
-      let mid = told b.bytes (p.time.bytes_told.0 (is_told a.bytes before is)) in
-      let first : LeavesOnly a b (DiffersIn at n before) = at_some a.bytes (λ x. LeavesOnly a b (DiffersIn at n x)) before is p.images in
-      let between : DiffersIn at n before mid.0 = at_some b.bytes _ mid.0 mid.1 (at_some a.bytes _ before is p.bytes) in
-      let later : LeavesOnly b c (DiffersIn at n mid.0) = at_some b.bytes (λ x. LeavesOnly b c (DiffersIn at n x)) mid.0 mid.1 q.images in
-      LeavesOnly-trans a b c (DiffersIn at n before) p.time q.time first (λ says image left. DiffersIn-trans at n before mid.0 image between (later says image left)));
+      let mid = known_after a b p.time before is in
+      let first : LeavesOnly a b (DiffersIn at n before) =
+      at_some a.bytes (λ x. LeavesOnly a b (DiffersIn at n x)) before is p.images in
+      let later : LeavesOnly b c (DiffersIn at n mid.0) =
+      at_some b.bytes (λ x. LeavesOnly b c (DiffersIn at n x)) mid.0 mid.1 q.images in
+      LeavesOnly-trans a b c (DiffersIn at n before) p.time q.time first
+      (λ says image left. further before is mid.0 mid.1 image (later says image left)));
 }
+  where
+    between : (before : List ℕ) → a.bytes ≡ Some before → (mid : List ℕ) → b.bytes ≡ Some mid
+        → DiffersIn at n before mid
+    between before is mid is_mid =
+        at_some b.bytes _ mid is_mid (at_some a.bytes _ before is p.bytes)
 
--- what the flash told before, where it tells now
-pub told_before : (a b : FlashState) → GoesOn a b → (x : List ℕ) → b.bytes ≡ Some x → (y : List ℕ) × (a.bytes ≡ Some y)
-told_before a b time x is = told a.bytes (time.bytes_told.1 (is_told b.bytes x is))
-
-pub told_after : (a b : FlashState) → GoesOn a b → (x : List ℕ) → a.bytes ≡ Some x → (y : List ℕ) × (b.bytes ≡ Some y)
-told_after a b time x is = told b.bytes (time.bytes_told.0 (is_told a.bytes x is))
-
-pub same_some : (x y : List ℕ) → Some x ≡ Some y → x ≡ y
-same_some x y is = cc
-
--- a flash whose last Ok is now is settled
-pub settled_now : (s : FlashState) → IsFlash s → (IsTrue s.images_told → s.last_ok ≡ s.moment) → IsSettled s
-settled_now s lawful now says image left = (lawful.moments says).only_now image (let P : ℕ → Type 0 = λ t. s.images t image in subst P (now says) left)
-
--- a settled flash reads the same after a restart
-pub restart_settled : {E : Type 0} (a b : FlashState) (result : Result Unit E) → Restarts a b result → IsSettled a → IsTrue a.images_told → (image : List ℕ) → b.bytes ≡ Some image → a.bytes ≡ Some image
-restart_settled a b result restarts settled says image is = settled says image (at_some b.bytes (λ x. a.images a.last_ok x) image is (restarts.bytes says))
+    further : (before : List ℕ) → a.bytes ≡ Some before → (mid : List ℕ) → b.bytes ≡ Some mid
+        → (image : List ℕ) → DiffersIn at n mid image → DiffersIn at n before image
+    further before is mid is_mid image differs =
+        DiffersIn-trans at n before mid image (between before is mid is_mid) differs

@@ -1,5 +1,5 @@
 -- Lists of bytes, as a flash holds them.
-use Rattle.std.specs.Prelude.{◌≡◌, ℕ, ◌+◌, ◌%◌, ◌==◌, if◌then◌else◌, List, ◌++◌, length, take, drop, replicate, map, slice_index}
+use Rattle.std.specs.Prelude.{◌≡◌, ◌⊎◌, ℕ, ◌+◌, ◌%◌, ◌≤◌, ◌==◌, if◌then◌else◌, List, ◌++◌, length, take, drop, replicate, map, slice_index}
 use Rattle.std.specs.List.{range_with_len}
 
 -- n bytes of FF, as an erased flash reads
@@ -9,6 +9,10 @@ blank n = replicate n 255
 -- the n bytes from this place on
 abbrev pub part : ℕ → ℕ → List ℕ → List ℕ
 part at n bytes = take n (drop at bytes)
+
+-- they are all FF
+abbrev pub IsErased : ℕ → ℕ → List ℕ → Type 0
+IsErased at n bytes = part at n bytes ≡ blank n
 
 -- old with these bytes at this place
 abbrev pub patch : List ℕ → ℕ → List ℕ → List ℕ
@@ -26,3 +30,9 @@ torn_byte torn place = if length torn == 0 then 255 else slice_index torn (place
 
 unfoldable pub repeated : List ℕ → ℕ → List ℕ
 repeated torn n = map (torn_byte torn) (range_with_len 0 n)
+
+-- a part outside the range in which two lists differ is the same in both
+abbrev pub PartsOutsideStay : Type 0
+PartsOutsideStay = (at n : ℕ) (old new : List ℕ) → DiffersIn at n old new
+    → (place len : ℕ) → (place + len ≤ at) ⊎ (at + n ≤ place)
+    → part place len new ≡ part place len old

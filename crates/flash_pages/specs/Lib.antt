@@ -1,9 +1,11 @@
+pub mod Append
 pub mod Bank
 pub mod Bytes
 pub mod Flash
 pub mod Kept
 pub mod Left
 pub mod Memory
+pub mod MemoryLaw
 pub mod Past
 pub mod Plan
 pub mod Rows

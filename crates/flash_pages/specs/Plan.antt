@@ -18,6 +18,18 @@ pub record Plan : Type 0 where
   -- power was cut, and there was no restart since
   pub is_off : Bool
 
+-- before the first call
+abbrev pub planned : List ℕ → List ℕ → Option ℕ → Plan
+planned fail fail_reads cut = record {
+  fail = fail;
+  fail_reads = fail_reads;
+  cut = cut;
+  changes = 0;
+  reads = 0;
+  faults = 0;
+  is_off = false;
+}
+
 abbrev pub is_named : Option ℕ → ℕ → Bool
 is_named None call = false
 is_named (Some cut) call = cut == call
@@ -28,7 +40,9 @@ is_listed calls call = list_any (λ listed. listed == call) calls
 -- Power that is off does nothing. The call of the cut and the listed ones tear what they write.
 abbrev pub outcome_of : Plan → Outcome
 outcome_of plan =
-    let call = one_more plan.changes in if plan.is_off then Off else (if is_named plan.cut call || is_listed plan.fail call then Torn else Done)
+    let call = one_more plan.changes in
+    if plan.is_off then Off else
+    (if is_named plan.cut call || is_listed plan.fail call then Torn else Done)
 
 abbrev pub is_done : Outcome → Bool
 is_done Done = true
@@ -43,13 +57,18 @@ after_change plan = record plan {
   is_off = plan.is_off || is_named plan.cut (one_more plan.changes);
 }
 
--- whether the next read gives the bytes
+-- whether the next read works
 abbrev pub is_read : Plan → Bool
 is_read plan = not (plan.is_off || is_listed plan.fail_reads (one_more plan.reads))
 
 -- after one more read
 abbrev pub after_read : Plan → Plan
-after_read plan = record plan { reads = one_more plan.reads; faults = if is_read plan then plan.faults else one_more plan.faults }
+after_read plan =
+    record plan {
+      reads = one_more plan.reads;
+      faults = if is_read plan then plan.faults else
+          one_more plan.faults;
+    }
 
 -- after a restart
 abbrev pub after_restart : Plan → Plan

@@ -1,10 +1,9 @@
--- Rows: a gate, four bytes of length, and a body. A row is open where its gate is 00, and the rows of a bank end at
--- the first gate that isn't.
-use Rattle.std.specs.Prelude.{◌≡◌, ◌≢◌, ◌⊎◌, ℕ, ◌+◌, ◌^◌, ◌<◌, ◌≤◌, ⊤, List, [], ◌∷◌, ◌++◌, length, drop}
+-- Rows: a gate, four bytes of length, and a body. A row is open where its gate is 00, and the rows
+-- of a bank end at the first gate that isn't.
+use Rattle.std.specs.Prelude.{◌≡◌, ◌≢◌, ◌↔◌, ℕ, ◌+◌, ◌^◌, ◌<◌, ◌≤◌, ⊤, List, [], ◌∷◌, ◌++◌, length, take, drop}
 use Rattle.std.specs.Int.{to_be_bytes, w32}
 use Rattle.flash_pages.specs.declared.row.RowAt.{RowAt}
 use Rattle.flash_pages.specs.declared.row.RowAt.TheVariants.{Open, End, Overrun}
-use Rattle.flash_pages.specs.Bytes.{patch, DiffersIn}
 
 -- what stands behind the gate
 abbrev pub behind_gate : List ℕ → List ℕ
@@ -19,7 +18,7 @@ abbrev pub rows_of : List (List ℕ) → List ℕ
 rows_of [] = []
 rows_of (body ∷ bodies) = row_of body ++ rows_of bodies
 
--- no open row stands at the front
+-- no open row stands first
 abbrev pub IsClosed : List ℕ → Type 0
 IsClosed [] = ⊤
 IsClosed (gate ∷ rest) = gate ≢ 0
@@ -30,18 +29,22 @@ HasRows bytes bodies = (rest : List ℕ) × (bytes ≡ rows_of bodies ++ rest) �
 
 -- a bank has no two lists of open rows
 abbrev pub HasOneListOfRows : Type 0
-HasOneListOfRows = (bytes : List ℕ) (first second : List (List ℕ)) → length bytes < 2 ^ 32 → HasRows bytes first → HasRows bytes second → first ≡ second
+HasOneListOfRows =
+    (bytes : List ℕ) (first second : List (List ℕ)) → length bytes < 2 ^ 32 → HasRows bytes first
+    → HasRows bytes second → first ≡ second
 
--- an open row with this body stands at the front
+-- an open row with this body stands first
 abbrev pub BeginsWithRow : List ℕ → List ℕ → Type 0
 BeginsWithRow bytes body = (rest : List ℕ) × (bytes ≡ row_of body ++ rest)
 
--- what stands at the front of what is left of a bank from place `at` on
+-- what stands first in what is left of a bank from place `at` on
 abbrev pub RowIs : ℕ → List ℕ → RowAt → Type 0
 RowIs at bytes End = IsClosed bytes
 RowIs at bytes (Open place len next) =
-    (body : List ℕ) × BeginsWithRow bytes body × (length body ≡ len) × (place ≡ at + 5) × (next ≡ place + len)
-RowIs at bytes Overrun = (IsClosed bytes → ⊥) × ((body : List ℕ) → length body < 2 ^ 32 → BeginsWithRow bytes body → ⊥)
+    (body : List ℕ) × BeginsWithRow bytes body × (length body ≡ len) × (place ≡ at + 5) ×
+    (next ≡ place + len)
+RowIs at bytes Overrun =
+    (IsClosed bytes → ⊥) × ((body : List ℕ) → length body < 2 ^ 32 → BeginsWithRow bytes body → ⊥)
 
 -- an open row ends no later than the bank
 abbrev pub LiesBefore : ℕ → ℕ → RowAt → Type 0
@@ -49,19 +52,28 @@ LiesBefore at end (Open body len next) = (body ≡ at + 5) × (next ≡ body + l
 LiesBefore at end End = ⊤
 LiesBefore at end Overrun = ⊤
 
--- What a cut may leave while a row is appended: length and body torn behind a gate as it was, or both in place
--- behind any gate.
-abbrev pub IsTornRow : ℕ → List ℕ → List ℕ → List ℕ → Type 0
-IsTornRow at body before image =
-    DiffersIn (at + 1) (4 + length body) before image ⊎ DiffersIn at 1 (patch before (at + 1) (behind_gate body)) image
-
--- The open rows of a bank end at this place of it, and no open row stands behind the bytes that a row with a body of
--- this length takes there.
-pub record EndsAt (bytes : List ℕ) (bodies : List (List ℕ)) (place len : ℕ) : Type 0 where
-  pub rows : HasRows bytes bodies
+-- the rows up to this place are open and have these bodies
+pub record RowsUpTo (bytes : List ℕ) (bodies : List (List ℕ)) (place : ℕ) : Type 0 where
   pub end : place ≡ length (rows_of bodies)
-  pub behind : IsClosed (drop (place + 5 + len) bytes)
+  pub rows : take place bytes ≡ rows_of bodies
 
--- the open rows are those of before, or those and this one
-abbrev pub HasRowsOrOneMore : List ℕ → List (List ℕ) → List ℕ → Type 0
-HasRowsOrOneMore bytes bodies body = HasRows bytes bodies ⊎ HasRows bytes (bodies ++ body ∷ [])
+-- what is read one row after another from place `at` on: open rows with these bodies, and then an
+-- end
+abbrev pub ReadsAs : ℕ → List ℕ → List (List ℕ) → Type 0
+ReadsAs at bytes [] = RowIs at bytes End
+ReadsAs at bytes (body ∷ bodies) =
+    RowIs at bytes (Open (at + 5) (length body) (at + 5 + length body))
+    × (take (length body) (drop 5 bytes) ≡ body)
+    × ReadsAs (at + 5 + length body) (drop (5 + length body) bytes) bodies
+
+-- rows read one after another up to an end are the open rows, from whatever place they are counted
+abbrev pub RowsAreThoseRead : Type 0
+RowsAreThoseRead =
+    (at : ℕ) (bytes : List ℕ) (bodies : List (List ℕ))
+    → HasRows bytes bodies ↔ ReadsAs at bytes bodies
+
+-- where an open row is met that doesn't lie in the bank, the bank has no list of open rows
+abbrev pub OverrunHasNoRows : Type 0
+OverrunHasNoRows =
+    (at place : ℕ) (bytes : List ℕ) (before bodies : List (List ℕ)) → length bytes < 2 ^ 32
+    → RowsUpTo bytes before place → RowIs at (drop place bytes) Overrun → HasRows bytes bodies → ⊥

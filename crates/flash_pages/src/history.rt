@@ -1,6 +1,7 @@
 ghost use Rattle.std.specs.Prelude.{◌≡◌, [], IfOk, true};
 ghost use Rattle.flash_pages.specs.Past.{after_call};
-ghost use Rattle.flash_pages.specs.Kept.{call_of};
+ghost use Rattle.std.specs.Option.{option_map};
+ghost use Rattle.flash_pages.specs.Kept.{call_of, first_of};
 
 use arrayvec::ArrayVec;
 use std::alloc::{AllocError as NoMemory, Global};
@@ -16,23 +17,31 @@ pub(crate) enum Kept {
     Restart,
 }
 
-/// The calls of a flash in memory, as long as there is room for them.
+/// The bytes that a flash in memory was made with, unless it was made blank, and its calls, as long
+/// as there is room for them.
 #[derive(Drop)]
 pub(crate) struct CallRecord {
+    first: Option<Vec<u8>>,
     calls: Vec<Kept>,
     torn: Vec<u8>,
     room: usize,
-    told: bool,
+    known: bool,
 }
 
 impl Model for CallRecord {
     ghost use Rattle.std.specs.Prelude.{◌≤◌, vec_capacity};
-    ghost use Rattle.flash_pages.specs.Kept.{History, calls_of};
+    ghost use Rattle.std.specs.Option.{option_map};
+    ghost use Rattle.flash_pages.specs.Kept.{History, calls_of, first_of};
 
     ghost Value = { History };
 
     ghost view = { λ h. record {
-      past = record { calls = calls_of h.torn.items h.calls.items; told = h.told; room = h.room };
+      past = record {
+        first = first_of (option_map (λ v. v.items) h.first);
+        calls = calls_of h.torn.items h.calls.items;
+        known = h.known;
+        room = h.room;
+      };
       torn = h.torn.items;
     } };
 
@@ -40,15 +49,26 @@ impl Model for CallRecord {
 }
 
 impl CallRecord {
-    pub(crate) fn new(alloc: Global, torn: Vec<u8>, room: usize) -> Result<Self, NoMemory>
-        ensures past { IfOk result (λ history. history.past ≡ record { calls = []; told = true; room = room }) }
+    pub(crate) fn new(
+        alloc: Global,
+        first: Option<Vec<u8>>,
+        torn: Vec<u8>,
+        room: usize,
+    ) -> Result<Self, NoMemory>
+        ensures past { IfOk result (λ history. history.past ≡ record {
+          first = first_of (option_map (λ v. v.items) first);
+          calls = [];
+          known = true;
+          room = room;
+        }) }
         ensures torn { IfOk result (λ history. history.torn ≡ torn.items) }
     {
         Ok(CallRecord {
             calls: Vec::with_capacity(alloc, room)?,
+            first,
             torn,
             room,
-            told: true,
+            known: true,
         })
     }
 
@@ -58,15 +78,15 @@ impl CallRecord {
         &self.torn
     }
 
-    /// Keeps a call. From the first one for which there is no room, the calls are told no more.
+    /// Keeps a call. From the first one for which there is no room, the calls are known no more.
     pub(crate) fn keep(&mut self, call: Kept)
         ensures past { self.new.past ≡ after_call self.old.past (call_of self.old.torn call) }
         ensures torn { self.new.torn ≡ self.old.torn }
     {
-        if self.told && self.calls.len() < self.room {
+        if self.known && self.calls.len() < self.room {
             self.calls.push_reserved(call);
         } else {
-            self.told = false;
+            self.known = false;
         }
     }
 }

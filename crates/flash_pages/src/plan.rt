@@ -1,22 +1,24 @@
-ghost use Rattle.std.specs.Prelude.{◌≡◌, false};
+ghost use Rattle.std.specs.Prelude.{◌≡◌};
 ghost use Rattle.port_io.specs.Faults.{NeverFalls};
-ghost use Rattle.flash_pages.specs.Plan.{is_named, outcome_of, after_change, is_read, after_read, after_restart};
+ghost use Rattle.flash_pages.specs.Plan.{planned, is_named, outcome_of, after_change, is_read, after_read, after_restart};
 
 use std::marker::Model;
 
-/// Which calls of a flash in memory fail. Program and erase calls are numbered together from 1, reads by themselves.
+/// Which calls of a flash in memory fail. Program and erase calls are numbered together from 1,
+/// reads by themselves.
 #[derive(Drop)]
 pub struct FlashPlan {
     /// The program and erase calls that fail. Each leaves the torn bytes in its range or block.
     pub fail: Vec<u64>,
     /// The reads that fail.
     pub fail_reads: Vec<u64>,
-    /// The program or erase call in which power is cut: it leaves the torn bytes, and each later call fails and does
-    /// nothing until `restart`.
+    /// The program or erase call in which power is cut: it leaves the torn bytes, and each later
+    /// call fails and does nothing until `restart`.
     pub cut: Option<u64>,
     /// The bytes that a failure leaves, over and over. None leave FF.
     pub torn: Vec<u8>,
-    /// For how many program, erase and restart calls there is room in the record from which the images follow.
+    /// For how many program, erase and restart calls there is room in the record from which the
+    /// images follow.
     pub kept: u64,
 }
 
@@ -61,15 +63,7 @@ impl Model for Power {
 
 impl Power {
     pub(crate) fn new(fail: Vec<u64>, fail_reads: Vec<u64>, cut: Option<u64>) -> Self
-        ensures { result ≡ record {
-          fail = fail.items;
-          fail_reads = fail_reads.items;
-          cut = cut;
-          changes = 0;
-          reads = 0;
-          faults = 0;
-          is_off = false;
-        } }
+        ensures { result ≡ planned fail.items fail_reads.items cut }
     {
         Power {
             fail,
@@ -88,7 +82,8 @@ impl Power {
         self.faults
     }
 
-    /// Counts a program or an erase, with its fault if it is to fail, and tells what becomes of it.
+    /// Counts a program or an erase, with its fault if it is to fail, and returns what becomes of
+    /// it.
     pub(crate) fn begin_change(&mut self) -> Outcome
         ensures outcome { result ≡ outcome_of self.old }
         ensures after { self.new ≡ after_change self.old }
@@ -110,7 +105,7 @@ impl Power {
         outcome
     }
 
-    /// Counts a read, with its fault if it is to fail, and tells whether it gives the bytes.
+    /// Counts a read, with its fault if it is to fail, and returns whether it works.
     pub(crate) fn begin_read(&mut self) -> bool
         ensures works { result ≡ is_read self.old }
         ensures after { self.new ≡ after_read self.old }

@@ -1,9 +1,10 @@
 ghost use Rattle.std.specs.Prelude.{◌≡◌, ◌+◌, ◌-◌, ◌%◌, ◌<◌, ◌≤◌, [], ◌∷◌, ◌++◌, ℕ, List, min, length, take, drop, Some, IfOk, OnOk, IfSome};
 ghost use Rattle.port_io.specs.Faults.{FailsOnlyWhereRose};
 ghost use Rattle.flash_pages.specs.Bank.{start_of, end_of, bank_bytes, LiesInFlash, IsPlaceIn};
-ghost use Rattle.flash_pages.specs.Bytes.{blank, part, patch};
-ghost use Rattle.flash_pages.specs.Flash.{IsRange, IsSettled, Reads, Touches, LeavesOnly};
-ghost use Rattle.flash_pages.specs.Rows.{behind_gate, row_of, HasRows, HasOneListOfRows, RowIs, LiesBefore, IsTornRow, EndsAt, HasRowsOrOneMore};
+ghost use Rattle.flash_pages.specs.Bytes.{part, patch, IsErased};
+ghost use Rattle.flash_pages.specs.Flash.{block_len, card_blocks, IsRange, Reads, Touches};
+ghost use Rattle.flash_pages.specs.Append.{EndsAt, AppendsRow, LeavesTornRow, KeepsRows};
+ghost use Rattle.flash_pages.specs.Rows.{behind_gate, RowIs, LiesBefore};
 
 use crate::{BLOCK_LEN, Bank, Flash, PIECE_LEN};
 use port_io::Failed;
@@ -23,7 +24,8 @@ pub trait Body {
     fn len(&self) -> u32
         ensures { result ≡ length (bytes self.now) };
 
-    /// Puts the bytes from place `at` on at the front of `out`, as many as both have, and gives their number.
+    /// Copies the bytes from place `at` on to the start of `out`, as many as both have, and returns
+    /// their number.
     fn fill(&self, at: u32, out: &mut [u8]) -> usize
         requires { at ≤ length (bytes self.now) }
         ensures count { result ≡ min (length out.old) (length (bytes self.now) - at) }
@@ -41,19 +43,16 @@ pub enum RowAt {
     Overrun,
 }
 
-/// That a bank has no two lists of open rows. There is nothing to run.
-pub fn rows_are_unique()
-    ensures { HasOneListOfRows }
-{}
-
 /// Reads what stands at a place in a bank.
 pub fn read_row<F: Flash>(flash: &mut F, bank: Bank, at: u32) -> Result<RowAt, Failed>
-    requires bank { LiesInFlash bank }
+    requires bank { LiesInFlash card_blocks bank }
     requires place { IsPlaceIn bank at }
-    ensures row { IfOk result (λ row. IfSome (F.state flash.old).bytes (λ bytes. RowIs at (part at (end_of bank - at) bytes) row)) }
+    ensures row { IfOk result (λ row. IfSome (F.state flash.old).bytes
+        (λ bytes. RowIs at (part at (end_of bank - at) bytes) row)) }
     ensures place { IfOk result (LiesBefore at (end_of bank)) }
     ensures reads { Reads (F.state flash.old) (F.state flash.new) }
-    ensures cause { FailsOnlyWhereRose result (F.state flash.old).faults (F.state flash.new).faults }
+    ensures cause { FailsOnlyWhereRose result (F.state flash.old).faults
+        (F.state flash.new).faults }
 {
     let end = BLOCK_LEN * (bank.first + bank.blocks);
     let held = HEAD_LEN.min(end - at) as usize;
@@ -67,7 +66,8 @@ pub fn read_row<F: Flash>(flash: &mut F, bank: Bank, at: u32) -> Result<RowAt, F
 fn row_at(head: &[u8], at: u32, end: u32) -> RowAt
     requires place { at ≤ end }
     requires length { length head.now ≡ min 5 (end - at) }
-    ensures row { (rest : List ℕ) → length rest ≡ end - at → head.now ≡ take 5 rest → RowIs at rest result }
+    ensures row { (rest : List ℕ) → length rest ≡ end - at → head.now ≡ take 5 rest
+        → RowIs at rest result }
     ensures place { LiesBefore at end result }
 {
     match head {
@@ -88,41 +88,32 @@ fn row_at(head: &[u8], at: u32, end: u32) -> RowAt
     }
 }
 
-/// Appends a row: its length and body, in pieces of at most 256 bytes inside one block, and then its gate. Gives the
-/// place behind it.
+/// Appends a row: its length and body, in pieces of at most 256 bytes inside one block, and then
+/// its gate. Returns the place behind it.
 pub fn append_row<F: Flash, B: Body>(
     flash: &mut F,
     bank: Bank,
     at: u32,
     body: &B,
 ) -> Result<u32, Failed>
-    requires bank { LiesInFlash bank }
+    requires bank { LiesInFlash card_blocks bank }
     requires place { IsPlaceIn bank at }
     requires fits { at + 5 + length (B.bytes body.now) ≤ end_of bank }
     requires erased { IfSome (F.state flash.old).bytes
-        (λ before. part at (5 + length (B.bytes body.now)) before ≡ blank (5 + length (B.bytes body.now))) }
+        (IsErased at (5 + length (B.bytes body.now))) }
 
     ensures next { IfOk result (λ next. next ≡ at + 5 + length (B.bytes body.now)) }
-    ensures done { OnOk result (IfSome (F.state flash.old).bytes
-        (λ before. (F.state flash.new).bytes ≡ Some (patch before at (row_of (B.bytes body.now))))) }
-    ensures lasts { OnOk result (IsSettled (F.state flash.new)) }
+    ensures appends { AppendsRow at (B.bytes body.now) (F.state flash.old)
+        (F.state flash.new) result }
+    ensures torn { LeavesTornRow at (B.bytes body.now) (F.state flash.old) (F.state flash.new) }
 
-    // A cut or a failure leaves a torn row, and all else as it was.
-    ensures touches { Touches at (5 + length (B.bytes body.now)) (F.state flash.old) (F.state flash.new) }
-    ensures torn { IfSome (F.state flash.old).bytes
-        (λ before. IfSome (F.state flash.new).bytes (IsTornRow at (B.bytes body.now) before)) }
-    ensures images { IfSome (F.state flash.old).bytes
-        (λ before. LeavesOnly (F.state flash.old) (F.state flash.new) (IsTornRow at (B.bytes body.now) before)) }
-
-    // Where the open rows of the bank end at this place, they are at each moment those of before, or those and this
-    // one. After Ok they are the latter.
+    // Where the open rows of the bank end at this place, the bank keeps them.
     ensures rows { IfSome (F.state flash.old).bytes (λ before. (bodies : List (List ℕ))
         → EndsAt (bank_bytes bank before) bodies (at - start_of bank) (length (B.bytes body.now))
-        → LeavesOnly (F.state flash.old) (F.state flash.new) (λ image. HasRowsOrOneMore (bank_bytes bank image) bodies (B.bytes body.now))
-        × IfSome (F.state flash.new).bytes (λ bytes. HasRowsOrOneMore (bank_bytes bank bytes) bodies (B.bytes body.now))
-        × OnOk result (IfSome (F.state flash.new).bytes (λ bytes. HasRows (bank_bytes bank bytes) (bodies ++ B.bytes body.now ∷ [])))) }
+        → KeepsRows bank bodies (B.bytes body.now) (F.state flash.old) (F.state flash.new) result) }
 
-    ensures cause { FailsOnlyWhereRose result (F.state flash.old).faults (F.state flash.new).faults }
+    ensures cause { FailsOnlyWhereRose result (F.state flash.old).faults
+        (F.state flash.new).faults }
 {
     program_behind_gate(flash, at + GATE_LEN, body)?;
     flash.program(at, &[OPEN])?;
@@ -131,13 +122,17 @@ pub fn append_row<F: Flash, B: Body>(
 
 // Programs length and body from this place on.
 fn program_behind_gate<F: Flash, B: Body>(flash: &mut F, place: u32, body: &B) -> Result<(), Failed>
-    requires fits { IsRange place (4 + length (B.bytes body.now)) }
+    requires fits { IsRange card_blocks place (4 + length (B.bytes body.now)) }
     requires erased { IfSome (F.state flash.old).bytes
-        (λ before. part place (4 + length (B.bytes body.now)) before ≡ blank (4 + length (B.bytes body.now))) }
+        (IsErased place (4 + length (B.bytes body.now))) }
     ensures done { OnOk result (IfSome (F.state flash.old).bytes
-        (λ before. (F.state flash.new).bytes ≡ Some (patch before place (behind_gate (B.bytes body.now))))) }
-    ensures touches { Touches place (4 + length (B.bytes body.now)) (F.state flash.old) (F.state flash.new) }
-    ensures cause { FailsOnlyWhereRose result (F.state flash.old).faults (F.state flash.new).faults }
+        (λ before. (F.state flash.new).bytes
+        ≡ Some (patch before place (behind_gate (B.bytes body.now))))) }
+    ensures touches { Touches place (4 + length (B.bytes body.now)) (F.state flash.old)
+        (F.state flash.new) }
+    ensures erased { (F.state flash.new).erased ≡ (F.state flash.old).erased }
+    ensures cause { FailsOnlyWhereRose result (F.state flash.old).faults
+        (F.state flash.new).faults }
 {
     let len = LENGTH_LEN + body.len();
     let mut buffer = [0u8; PIECE_LEN];
@@ -158,7 +153,7 @@ fn piece_len(place: u32, left: u32) -> u32
     ensures some { 0 < result }
     ensures within { result ≤ left }
     ensures at_most { result ≤ 256 }
-    ensures one_block { place % BLOCK_LEN + result ≤ BLOCK_LEN }
+    ensures one_block { place % block_len + result ≤ block_len }
 {
     left.min(PIECE_LEN as u32)
         .min(BLOCK_LEN - place % BLOCK_LEN)
@@ -174,12 +169,12 @@ fn fill_behind_gate<B: Body>(body: &B, at: u32, out: &mut [u8])
         return;
     }
     let length = body.len().to_be_bytes();
-    let copied = copy_front(&length[at as usize..], out);
+    let copied = copy_prefix(&length[at as usize..], out);
     body.fill(0, &mut out[copied..]);
 }
 
-// Copies to the front of `out` as much as both hold, and gives its length.
-pub(crate) fn copy_front(from: &[u8], out: &mut [u8]) -> usize
+// Copies to the start of `out` as many bytes as both have, and returns their number.
+pub(crate) fn copy_prefix(from: &[u8], out: &mut [u8]) -> usize
     ensures count { result ≡ min (length out.old) (length from.now) }
     ensures copied { out.new ≡ take result from.now ++ drop result out.old }
 {

@@ -3,10 +3,10 @@ ghost use Rattle.std.specs.Prelude.{◌≡◌, ◌^◌, ◌<◌, length, IfSome,
 ghost use Rattle.std.specs.Bool.{OnTrue};
 ghost use Rattle.flash_pages.specs.Bank.{LiesInFlash};
 ghost use Rattle.flash_pages.specs.Bytes.{blank, part};
-ghost use Rattle.flash_pages.specs.Flash.{IsRange};
+ghost use Rattle.flash_pages.specs.Flash.{card_blocks, IsRange};
 
 use super::*;
-use crate::row::copy_front;
+use crate::row::copy_prefix;
 use port_io::Failed;
 use std::alloc::{AllocError, Global};
 use std::test::Fail;
@@ -31,7 +31,7 @@ impl Body for Text<'_> {
     }
 
     fn fill(&self, at: u32, out: &mut [u8]) -> usize {
-        copy_front(&self.bytes[at as usize..], out)
+        copy_prefix(&self.bytes[at as usize..], out)
     }
 }
 
@@ -43,7 +43,7 @@ fn all_erased(bytes: &[u8]) -> bool
 
 /// Whether a range reads FF.
 fn is_blank<F: Flash>(flash: &mut F, at: u32, buf: &mut [u8]) -> bool
-    requires { IsRange at (length buf.old) }
+    requires { IsRange card_blocks at (length buf.old) }
     ensures { OnTrue result (IfSome (F.state flash.new).bytes
         (λ bytes. part at (length buf.old) bytes ≡ blank (length buf.old))) }
 {
@@ -53,7 +53,7 @@ fn is_blank<F: Flash>(flash: &mut F, at: u32, buf: &mut [u8]) -> bool
     }
 }
 
-/// Programs bytes, or gives none where they aren't a piece or their range isn't blank.
+/// Programs bytes, or returns none where they aren't a piece or their range isn't blank.
 fn try_program<F: Flash>(flash: &mut F, at: u32, bytes: &[u8]) -> Option<Result<(), Failed>> {
     let n = bytes.len();
     if n == 0 || n > 256 || at >= FLASH_LEN || (at % BLOCK_LEN) as usize + n > BLOCK_LEN as usize {
@@ -67,7 +67,8 @@ fn try_program<F: Flash>(flash: &mut F, at: u32, bytes: &[u8]) -> Option<Result<
     Some(flash.program(at, bytes))
 }
 
-/// Appends a row to the bank of the tests, or gives none where it doesn't fit or isn't blank there.
+/// Appends a row to the bank of the tests, or returns none where it doesn't fit or isn't blank
+/// there.
 fn try_append<F: Flash>(
     alloc: Global,
     flash: &mut F,
@@ -87,7 +88,7 @@ fn try_append<F: Flash>(
 
 /// The lengths of the open rows of a bank, up to the first read that fails.
 fn row_lengths<F: Flash>(alloc: Global, flash: &mut F, bank: Bank) -> Result<Vec<u32>, AllocError>
-    requires { LiesInFlash bank }
+    requires { LiesInFlash card_blocks bank }
 {
     let mut lengths = Vec::new(alloc);
     let mut at = BLOCK_LEN * bank.first;
@@ -119,22 +120,28 @@ fn restarts<F: Flash>(flash: &mut F) -> bool {
     flash.restart().is_ok()
 }
 
+fn plan_with(
+    alloc: Global,
+    fail: &[u64],
+    cut: Option<u64>,
+    torn: &[u8],
+) -> Result<FlashPlan, AllocError> {
+    Ok(FlashPlan {
+        fail: fail.to_vec(alloc)?,
+        fail_reads: Vec::new(alloc),
+        cut,
+        torn: torn.to_vec(alloc)?,
+        kept: 100,
+    })
+}
+
 fn flash_with(
     alloc: Global,
     fail: &[u64],
     cut: Option<u64>,
     torn: &[u8],
 ) -> Result<MemoryFlash, AllocError> {
-    MemoryFlash::new(
-        alloc,
-        FlashPlan {
-            fail: fail.to_vec(alloc)?,
-            fail_reads: Vec::new(alloc),
-            cut,
-            torn: torn.to_vec(alloc)?,
-            kept: 100,
-        },
-    )
+    MemoryFlash::new(alloc, plan_with(alloc, fail, cut, torn)?)
 }
 
 #[test]
@@ -188,27 +195,58 @@ fn after_a_cut_nothing_works_until_the_restart(rt: HostRuntime) -> Result<(), Fa
     Ok(())
 }
 
-// The calls are told no more once their room is spent, and all else goes on.
+// Once the room for calls is spent all goes on, and a restart leaves the bytes as a failure left
+// them.
 #[test]
 fn a_flash_with_little_room_goes_on(rt: HostRuntime) -> Result<(), Fail> {
     let alloc = rt.alloc();
     let plan = FlashPlan {
-        fail: Vec::new(alloc),
-        fail_reads: [2].to_vec(alloc)?,
+        fail: [3].to_vec(alloc)?,
+        fail_reads: [3].to_vec(alloc)?,
         cut: None,
-        torn: Vec::new(alloc),
+        torn: [0x5a].to_vec(alloc)?,
         kept: 1,
     };
     let mut flash = MemoryFlash::new(alloc, plan)?;
     let worked = [
         try_erase(&mut flash, 0),
         try_erase(&mut flash, 1),
+        !try_erase(&mut flash, 1),
         restarts(&mut flash),
     ];
-    assert_eq!(rt; worked, [true; 3]);
-    for outcome in [Some(true), None, Some(true)] {
-        assert_eq!(rt; reads(&mut flash, 4095, &[0xff, 0xff]), outcome);
+    assert_eq!(rt; worked, [true; 4]);
+    for outcome in [Some(true), Some(true), None, Some(true)] {
+        assert_eq!(rt; reads(&mut flash, 4095, &[0xff, 0x5a]), outcome);
     }
+    memory_leaves_images(&flash);
+    Ok(())
+}
+
+// Its switch row has one 00 byte and a torn one behind, its bank a row of one byte. Power is cut in
+// the gate of the next row.
+#[test]
+fn a_flash_may_hold_bytes_from_the_start(rt: HostRuntime) -> Result<(), Fail> {
+    let alloc = rt.alloc();
+    let mut bytes = vec![in alloc; 0xff; FLASH_LEN as usize]?;
+    bytes[0] = 0x00;
+    bytes[1] = 0x5a;
+    bytes[4096..4102].copy_from_slice(&[0, 0, 0, 0, 1, 0x42]);
+    let plan = plan_with(alloc, &[], Some(2), &[0x5a])?;
+    let mut flash = MemoryFlash::holding(alloc, &bytes, plan)?;
+    let switch = Switch {
+        live: 1,
+        next: Some(2),
+    };
+    assert_eq!(rt; read_switch(&mut flash, 0), Ok(switch));
+    assert_eq!(rt;
+        try_append(alloc, &mut flash, 4102, b"cut"),
+        Some(Err(Failed))
+    );
+    assert!(rt; restarts(&mut flash));
+    let lengths = row_lengths(alloc, &mut flash, BANK)?;
+    assert_eq!(rt; lengths.as_slice(), [1].as_slice());
+    let row = reads(&mut flash, 4096, &[0, 0, 0, 0, 1, 0x42, 0x5a, 0, 0, 0, 3]);
+    assert_eq!(rt; row, Some(true));
     Ok(())
 }
 
@@ -277,8 +315,8 @@ fn rows_after_cut(
     Ok((appended && on, row_lengths(alloc, &mut flash, BANK)?))
 }
 
-// A row of 600 bytes behind one of five takes three calls for length and body and one for the gate. Only a gate torn
-// to 00 opens it.
+// A row of 600 bytes behind one of five takes three calls for length and body and one for the gate.
+// Only a gate torn to 00 opens it.
 #[test]
 fn an_append_that_is_cut_leaves_the_rows_of_before_or_one_more(
     rt: HostRuntime,
@@ -319,6 +357,29 @@ fn a_switch_row_counts_its_zeros(rt: HostRuntime) -> Result<(), Fail> {
 }
 
 #[test]
-fn the_law_of_rows_is_callable() {
+fn the_laws_are_callable(rt: HostRuntime) -> Result<(), Fail> {
+    let flash = flash_with(rt.alloc(), &[], None, &[])?;
     rows_are_unique();
+    rows_are_those_read();
+    next_byte_switches();
+    parts_outside_stay();
+    settled_stays(&flash, &flash);
+    memory_leaves_images(&flash);
+    Ok(())
+}
+
+#[test]
+fn a_refused_call_returns_its_value_and_its_fault(rt: HostRuntime) -> Result<(), Fail> {
+    let back = Back {
+        value: 7u8,
+        fault: Failed,
+    };
+    assert_eq!(rt;
+        back,
+        Back {
+            value: 7,
+            fault: Failed
+        }
+    );
+    Ok(())
 }

@@ -1,70 +1,87 @@
-use Rattle.std.proofs.Common.{◌≡◌, ◌+◌, ◌*◌, ◌≤◌, ℕ, List, [], Some, Ok, true, false, length, refl, sym, ap, ◌∙◌, arith}
+use Rattle.std.proofs.Common.{◌+◌, ◌*◌, ◌≤◌, ℕ, List, Some, Ok, true, false, length, refl, sym, ap, ◌∙◌, arith}
 use Rattle.std.proofs.lemmas.Bool.{false≢true}
 use Rattle.std.proofs.lemmas.List.{with_items_is}
 use Rattle.flash_pages.specs.declared.plan.Outcome.{Outcome}
-use Rattle.flash_pages.specs.Bytes.{blank, patch, repeated}
+use Rattle.flash_pages.specs.Bytes.{blank, patch}
 use Rattle.flash_pages.specs.Left.{left_by, with_left}
-use Rattle.flash_pages.specs.Past.{Past, Write, after_call, content}
+use Rattle.flash_pages.specs.Past.{Past, Write, after_call}
 use Rattle.flash_pages.specs.Plan.{outcome_of}
 use Rattle.flash_pages.proofs.Patches.{length-blank, length-patch}
-use Rattle.flash_pages.proofs.MemoryCalls.{Changes-memory, replays_after, content-write, repeated-nil, left_size, is_done-is, not_ok, after_call-told, after_call-room}
+use Rattle.flash_pages.proofs.MemoryCalls.{IsKept, Changes-memory, kept_after, content-write, erased_block, left_size, is_done-is, not_ok}
 use Rattle.flash_pages.proofs.memory.MemoryFlashFlash.erase.Goals as goal
 
 pub returns-in_err-begin-clause-changes : goal.returns-in_err-begin-clause-changes
 returns-in_err-begin-clause-changes c =
     let old = c.args.self.now in
     let at = 4096 * c.args.block in
+    let left = left_by (outcome_of old.power) old.history.torn (blank 4096) in
     let fits : at + 4096 ≤ length old.bytes.items = omega (arith, c.requires, old.sized) in
-    Changes-memory old.history.past c.begin.new.self.history.past at 4096 (left_by (outcome_of old.power) old.history.torn (blank 4096)) false old.bytes.items _ (blank 4096) _ _ _ _ _ _ c.from_residual.result
-    c.in_err-begin.ensures.err.1 old.replays c.in_err-begin.ensures.err.0 (length-blank 4096) fits (left_size (outcome_of old.power) old.history.torn 4096) (λ says. absurd (false≢true says)) (not_ok c.from_residual.result c.from_residual.ensures.0)
-    (omega (arith, c.begin.ensures.programmed)) (omega (arith, c.begin.ensures.erased)) c.begin.ensures.count
+    let err = c.in_err-begin.ensures.err in
+    Changes-memory old.history.past c.begin.new.self.history.past at 4096 left false old.bytes.items
+    _ (blank 4096) _ _
+    _ _ _ _ c.from_residual.result err.1 old.replays err.0 (length-blank 4096) fits
+    (left_size (outcome_of old.power) old.history.torn 4096) (λ says. absurd (false≢true says))
+    (not_ok c.from_residual.result c.from_residual.ensures.0)
+    (omega (arith, c.begin.ensures.programmed))
+    (omega (arith, c.begin.ensures.erased)) c.begin.ensures.count
 
 pub invariant_of-self-2 : goal.invariant_of-self-2
 invariant_of-self-2 c =
     let old = c.args.self.now in
     let at = 4096 * c.args.block in
-    let fits : at + length (blank 4096) ≤ length old.bytes.items = omega (arith, c.requires, old.sized, length-blank 4096) in
-    let past_is = c.keep.ensures.past ∙ ap (λ (past : Past). after_call past (Write at 4096 (Some (blank 4096)) true)) c.in_ok-begin.ensures.ok.1 in
-    let erased : c.tear.new.content ≡ patch old.bytes.items at (blank 4096) =
-    c.tear.ensures ∙ ap (λ (l : List ℕ). patch l at (repeated [] 4096)) (c.deref_mut.ensures.value ∙ c.in_ok-begin.ensures.ok.0) ∙ ap (patch old.bytes.items at) (repeated-nil 4096) in
-    let items = with_items_is c.begin.new.self.bytes c.tear.new.content (c.tear.auto.content ∙ c.deref_mut.ensures.len) ∙ erased in
-    record {
-      sized = ap length items ∙ length-patch old.bytes.items at (blank 4096) fits ∙ old.sized;
-      replays = replays_after old.history.past c.keep.new.self.past (Write at 4096 (Some (blank 4096)) true) _ past_is
-          (λ told. content-write at 4096 (Some (blank 4096)) true old.history.past.calls ∙ ap (λ (l : List ℕ). patch l at (blank 4096)) (old.replays told) ∙ sym items);
-    }
+    let call = Write at 4096 (Some (blank 4096)) true in
+    let fits : at + length (blank 4096) ≤ length old.bytes.items =
+    omega (arith, c.requires, old.sized, length-blank 4096) in
+    let past_is = c.keep.ensures.past
+    ∙ ap (λ (past : Past). after_call past call) c.in_ok-begin.ensures.ok.1 in
+    let erased =
+    erased_block old.bytes.items c.deref_mut.result.now c.tear.new.content at c.tear.ensures
+    (c.deref_mut.ensures.value ∙ c.in_ok-begin.ensures.ok.0) in
+    let items =
+    with_items_is c.begin.new.self.bytes c.tear.new.content
+    (c.tear.auto.content ∙ c.deref_mut.ensures.len) ∙ erased in
+    let sized = ap length items ∙ length-patch old.bytes.items at (blank 4096) fits ∙ old.sized in
+    let before : IsKept 9965568 old.history.past old.bytes.items =
+    record { replays = old.replays; images_sized = old.images_sized } in
+    let after =
+    kept_after 9965568 old.history.past c.keep.new.self.past call old.bytes.items _ past_is before
+    (λ known. content-write old.history.past.first at 4096
+    (Some (blank 4096)) true old.history.past.calls
+    ∙ ap (λ (l : List ℕ). patch l at (blank 4096)) (old.replays known) ∙ sym items)
+    sized in
+    record { sized = sized; replays = after.replays; images_sized = after.images_sized }
 
 pub returns-clause-changes : goal.returns-clause-changes
 returns-clause-changes c =
     let old = c.args.self.now in
     let at = 4096 * c.args.block in
+    let call = Write at 4096 (Some (blank 4096)) true in
     let fits : at + 4096 ≤ length old.bytes.items = omega (arith, c.requires, old.sized) in
-    let past_is = c.keep.ensures.past ∙ ap (λ (past : Past). after_call past (Write at 4096 (Some (blank 4096)) true)) c.in_ok-begin.ensures.ok.1 in
-    let erased : c.tear.new.content ≡ patch old.bytes.items at (blank 4096) =
-    c.tear.ensures ∙ ap (λ (l : List ℕ). patch l at (repeated [] 4096)) (c.deref_mut.ensures.value ∙ c.in_ok-begin.ensures.ok.0) ∙ ap (patch old.bytes.items at) (repeated-nil 4096) in
-    Changes-memory old.history.past c.keep.new.self.past at 4096 (Some (blank 4096)) true old.bytes.items _ (blank 4096) _ _ _ _ _ _ (Ok tt)
-    past_is old.replays (with_items_is c.begin.new.self.bytes c.tear.new.content (c.tear.auto.content ∙ c.deref_mut.ensures.len) ∙ erased) (length-blank 4096) fits (length-blank 4096) (λ says. refl) refl
-    (omega (arith, c.begin.ensures.programmed)) (omega (arith, c.begin.ensures.erased)) c.begin.ensures.count
+    let past_is = c.keep.ensures.past
+    ∙ ap (λ (past : Past). after_call past call) c.in_ok-begin.ensures.ok.1 in
+    let erased =
+    erased_block old.bytes.items c.deref_mut.result.now c.tear.new.content at c.tear.ensures
+    (c.deref_mut.ensures.value ∙ c.in_ok-begin.ensures.ok.0) in
+    let items =
+    with_items_is c.begin.new.self.bytes c.tear.new.content
+    (c.tear.auto.content ∙ c.deref_mut.ensures.len) ∙ erased in
+    Changes-memory old.history.past c.keep.new.self.past at 4096
+    (Some (blank 4096)) true old.bytes.items _
+    (blank 4096) _ _ _ _ _ _ (Ok tt) past_is old.replays items (length-blank 4096) fits
+    (length-blank 4096)
+    (λ says. refl) refl (omega (arith, c.begin.ensures.programmed))
+    (omega (arith, c.begin.ensures.erased))
+    c.begin.ensures.count
 
 pub returns-clause-left : goal.returns-clause-left
 returns-clause-left c =
     let old = c.args.self.now in
     let at = 4096 * c.args.block in
-    let erased : c.tear.new.content ≡ patch old.bytes.items at (blank 4096) =
-    c.tear.ensures ∙ ap (λ (l : List ℕ). patch l at (repeated [] 4096)) (c.deref_mut.ensures.value ∙ c.in_ok-begin.ensures.ok.0) ∙ ap (patch old.bytes.items at) (repeated-nil 4096) in
-    with_items_is c.begin.new.self.bytes c.tear.new.content (c.tear.auto.content ∙ c.deref_mut.ensures.len) ∙ erased
-    ∙ ap (λ (o : Outcome). with_left old.bytes.items at (left_by o old.history.torn (blank 4096))) (sym (is_done-is (outcome_of old.power) (sym c.in_ok-begin.ensures.answer)))
-
-pub returns-in_err-begin-clause-told : goal.returns-in_err-begin-clause-told
-returns-in_err-begin-clause-told c = ap (λ (past : Past). past.told) c.in_err-begin.ensures.err.1 ∙ after_call-told c.args.self.now.history.past _
-
-pub returns-in_err-begin-clause-room : goal.returns-in_err-begin-clause-room
-returns-in_err-begin-clause-room c = ap (λ (past : Past). past.room) c.in_err-begin.ensures.err.1 ∙ after_call-room c.args.self.now.history.past _
-
-pub returns-clause-told : goal.returns-clause-told
-returns-clause-told c =
-    ap (λ (past : Past). past.told) (c.keep.ensures.past ∙ ap (λ (past : Past). after_call past (Write (4096 * c.args.block) 4096 (Some (blank 4096)) true)) c.in_ok-begin.ensures.ok.1) ∙ after_call-told c.args.self.now.history.past _
-
-pub returns-clause-room : goal.returns-clause-room
-returns-clause-room c =
-    ap (λ (past : Past). past.room) (c.keep.ensures.past ∙ ap (λ (past : Past). after_call past (Write (4096 * c.args.block) 4096 (Some (blank 4096)) true)) c.in_ok-begin.ensures.ok.1) ∙ after_call-room c.args.self.now.history.past _
+    let erased =
+    erased_block old.bytes.items c.deref_mut.result.now c.tear.new.content at c.tear.ensures
+    (c.deref_mut.ensures.value ∙ c.in_ok-begin.ensures.ok.0) in
+    let is_done = is_done-is (outcome_of old.power) (sym c.in_ok-begin.ensures.answer) in
+    with_items_is c.begin.new.self.bytes c.tear.new.content
+    (c.tear.auto.content ∙ c.deref_mut.ensures.len) ∙ erased
+    ∙ ap (λ (o : Outcome). with_left old.bytes.items at (left_by o old.history.torn (blank 4096)))
+    (sym is_done)

@@ -1,5 +1,5 @@
 use Rattle.flash_pages.proofs.Unique.{unique}
-use Rattle.flash_pages.proofs.row.rows_are_unique.Goals as goal
+use Rattle.flash_pages.proofs.laws.rows_are_unique.Goals as goal
 
 pub returns : goal.returns
 returns c = unique
