@@ -6,10 +6,11 @@ use Rattle.file_rows.specs.Find.{child, child_with_sfi}
 use Rattle.file_rows.specs.Path.{is_in}
 use Rattle.file_rows.specs.declared.row.FileRow.{FileRow}
 use Rattle.file_rows.proofs.FindLemmas.{found_by_sfi}
+use Rattle.file_rows.proofs.ListLemmas.{contains_cases, contains_first, contains_later}
 use Rattle.file_rows.proofs.PathLemmas.{both_hold, is_false, is_in-is}
 use Rattle.uicc_tree.specs.Change.{AreRows}
 use Rattle.uicc_tree.specs.Files.{Files, Gives, HasSfi, IsLive, IsNodeOf, file_of, path_of, rows_of}
-use Rattle.uicc_tree.proofs.FindLemmas.{contains_cases, contains_first, contains_later, find_none}
+use Rattle.uicc_tree.proofs.FindLemmas.{find_none}
 
 -- what is found and what isn't are what a look-up gives
 pub gives_parts : (tree : Files) (node : Option ℕ) (row : Option FileRow)
