@@ -35,7 +35,7 @@ contains-map f (m ∷ ns) n there =
     (λ later. contains_later (f m) (map f ns) (f n) (contains-map f ns n later))
     (contains_cases m ns n there)
 
-nothing_there : (f : ℕ → FileRow) (ns : List ℕ) (n : ℕ) → map f ns ≡ [] → Contains ns n → ⊥
+pub nothing_there : (f : ℕ → FileRow) (ns : List ℕ) (n : ℕ) → map f ns ≡ [] → Contains ns n → ⊥
 nothing_there f [] n none there = omega (arith, there.1)
 nothing_there f (m ∷ ns) n none there = cc
 

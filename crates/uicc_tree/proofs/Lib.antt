@@ -11,3 +11,4 @@ pub mod SlotLemmas
 pub mod TreeLemmas
 pub mod GivesLemmas
 pub mod TestLemmas
+pub mod NameLemmas

@@ -104,8 +104,7 @@ impl Tree {
         self.arena.child_with_sfi(node, sfi)
     }
 
-    /// The node of the first application, in the order of creation, whose name begins so. It looks at the kind of each
-    /// file.
+    /// The node of the first application, in the order of creation, whose name begins so. It looks at the MF's children.
     pub fn by_name(&self, prefix: &[u8]) -> Option<u32>
         ensures { Gives self.now result (application_named prefix.now (rows_of self.now)) }
     {
