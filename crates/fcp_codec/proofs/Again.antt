@@ -21,8 +21,8 @@ use Rattle.file_rows.specs.declared.pin.PinRow.{PinRow}
 use Rattle.fcp_codec.specs.declared.fcp.Fcp.{Fcp}
 use Rattle.fcp_codec.specs.declared.fcp.RuleRef.{RuleRef}
 use Rattle.fcp_codec.specs.declared.fcp.RuleRef.TheVariants.{Whole}
-use Rattle.fcp_codec.specs.declared.status.PinStatus.{PinStatus}
-use Rattle.fcp_codec.specs.declared.status.TheConstants.{KEYS}
+use Rattle.fcp_codec.specs.declared.pin_status.PinStatus.{PinStatus}
+use Rattle.fcp_codec.specs.declared.pin_status.TheConstants.{KEYS}
 use Rattle.fcp_codec.specs.declared.tags.TheConstants.{SIZE, DESCRIPTOR, IDENTIFIER, NAME, SFI, LIFE, RULE, PROPRIETARY, PIN_STATUS, ENABLED}
 use Rattle.fcp_codec.specs.FileForm.{form_of}
 use Rattle.fcp_codec.specs.Values.{id_of, size_of, sfi_of, life_of}

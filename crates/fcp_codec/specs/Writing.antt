@@ -62,8 +62,8 @@ objects_for head pins =
     ++ record { tag = LIFE; value = life_byte head.life ∷ [] }
     ∷ rule_objects head.rule ++ last_objects (holds_files head.kind) head pins
 
-abbrev pub written : FileHead → List PinRow → List ℕ
-written head pins = shortest TEMPLATE (spelled (objects_for head pins))
+abbrev pub written_fcp : FileHead → List PinRow → List ℕ
+written_fcp head pins = shortest TEMPLATE (spelled (objects_for head pins))
 
 -- the name, where there is one
 abbrev pub name_for : List ℕ → Option (List ℕ)

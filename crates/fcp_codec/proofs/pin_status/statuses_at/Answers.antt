@@ -1,8 +1,8 @@
 use Rattle.std.proofs.Common.{sym, ◌∙◌, arith}
 use Rattle.fcp_codec.specs.PinStatus.{status_of}
 use Rattle.fcp_codec.proofs.Listing.{one_status, no_status, one_longer}
-use Rattle.fcp_codec.proofs.status.statuses_at.Goals as goal
-use Rattle.fcp_codec.proofs.status.statuses_at.Goals.{in-Some, in_default}
+use Rattle.fcp_codec.proofs.pin_status.statuses_at.Goals as goal
+use Rattle.fcp_codec.proofs.pin_status.statuses_at.Goals.{in-Some, in_default}
 
 pub loop-key-preserved : goal.loop-key-preserved
 loop-key-preserved c = elim c.match-status_of.branch [

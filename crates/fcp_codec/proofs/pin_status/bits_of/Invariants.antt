@@ -1,6 +1,6 @@
 use Rattle.std.proofs.Common.{◌≡◌, ◌+◌, ◌*◌, ◌≤◌, ◌^◌, drop}
 use Rattle.fcp_codec.specs.PinStatus.{bits_of}
-use Rattle.fcp_codec.proofs.status.bits_of.Given as goal
+use Rattle.fcp_codec.proofs.pin_status.bits_of.Given as goal
 
 -- the bits so far, and those to come, which lie below
 abbrev pub invariant-loop-status : goal.invariant-loop-status

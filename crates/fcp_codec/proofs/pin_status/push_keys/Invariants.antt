@@ -1,7 +1,7 @@
 use Rattle.std.proofs.Common.{◌≡◌, ◌+◌, ◌*◌, ◌≤◌, ◌++◌, length, map, drop}
 use Rattle.ber_tlv.specs.Walk.{spelled}
 use Rattle.fcp_codec.specs.PinStatus.{key_object}
-use Rattle.fcp_codec.proofs.status.push_keys.Given as goal
+use Rattle.fcp_codec.proofs.pin_status.push_keys.Given as goal
 
 -- the keys so far, and room for those to come
 abbrev pub invariant-loop-status : goal.invariant-loop-status

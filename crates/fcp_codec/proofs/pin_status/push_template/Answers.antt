@@ -1,7 +1,7 @@
 use Rattle.std.proofs.Common.{◌∙◌, arith}
 use Rattle.std.proofs.lemmas.Bool.Decides.{nat_tests}
 use Rattle.fcp_codec.proofs.Listing.{some_statuses, whole_template}
-use Rattle.fcp_codec.proofs.status.push_template.Goals as goal
+use Rattle.fcp_codec.proofs.pin_status.push_template.Goals as goal
 
 pub returns : goal.returns
 returns c =

@@ -1,4 +1,4 @@
-//! The PIN status template of a directory.
+//! The PIN status template DO `C6` of a directory (ETSI TS 102 221).
 ghost use Rattle.std.specs.Prelude.{◌≡◌, ◌+◌, ◌*◌, ◌<◌, ◌≤◌, ◌^◌, [], ◌++◌, length, map};
 ghost use Rattle.std.specs.List.{filter_map};
 ghost use Rattle.arrayvec.specs.ArrayVec.{array_vec_len};
