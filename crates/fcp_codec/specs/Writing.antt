@@ -1,9 +1,10 @@
 -- A file's control parameters as a card writes them (ETSI TS 102 221).
-use Rattle.std.specs.Prelude.{ℕ, ◌-◌, ◌*◌, ◌/◌, ◌^◌, ◌<◌, ◌≤◌, Bool, true, false, List, [], ◌∷◌, ◌++◌, Option, Some, None, unwrap_or, option_map, IfSome, length, slice_get, if◌then◌else◌, ◌==◌}
+use Rattle.std.specs.Prelude.{ℕ, ◌*◌, ◌/◌, ◌^◌, ◌<◌, ◌≤◌, Bool, true, false, List, [], ◌∷◌, ◌++◌, Option, Some, None, option_map, IfSome, length, if◌then◌else◌, ◌==◌}
 use Rattle.std.specs.Int.{w16, to_be_bytes}
 use Rattle.ber_tlv.specs.Tlv.{shortest}
 use Rattle.ber_tlv.specs.Walk.{Object, spelled}
 use Rattle.file_rows.specs.FileHead.{holds_files}
+use Rattle.file_rows.specs.Path.{own_id}
 use Rattle.file_rows.specs.declared.head.FileHead.{FileHead}
 use Rattle.file_rows.specs.declared.head.Kind.{Kind}
 use Rattle.file_rows.specs.declared.head.Kind.TheVariants.{Master, Directory, Application, Transparent, Linear, Cyclic}
@@ -16,7 +17,8 @@ use Rattle.fcp_codec.specs.declared.fcp.RuleRef.TheVariants.{Whole}
 use Rattle.fcp_codec.specs.PinStatus.{statuses_of, status_objects}
 use Rattle.fcp_codec.specs.declared.tags.TheConstants.{TEMPLATE, SIZE, DESCRIPTOR, IDENTIFIER, NAME, SFI, LIFE, RULE, PROPRIETARY}
 
--- a descriptor byte, a data coding byte, and for record files the length of a record and how many there are
+-- a descriptor byte, a data coding byte, and for record files the length of a record and how many
+-- there are
 abbrev pub descriptor_for : Kind → ℕ → ℕ → List ℕ
 descriptor_for Master record_len size = 0x78 ∷ 0x21 ∷ []
 descriptor_for Directory record_len size = 0x78 ∷ 0x21 ∷ []
@@ -24,10 +26,6 @@ descriptor_for Application record_len size = 0x78 ∷ 0x21 ∷ []
 descriptor_for Transparent record_len size = 0x41 ∷ 0x21 ∷ []
 descriptor_for Linear record_len size = 0x42 ∷ 0x21 ∷ 0 ∷ record_len ∷ size / record_len ∷ []
 descriptor_for Cyclic record_len size = 0x46 ∷ 0x21 ∷ 0 ∷ record_len ∷ size / record_len ∷ []
-
--- the last identifier of the path, and 3F00 for the MF
-abbrev pub own_id : List ℕ → ℕ
-own_id path = unwrap_or (slice_get path (length path - 1)) 0x3F00
 
 abbrev pub life_byte : Life → ℕ
 life_byte Active = 5
@@ -46,7 +44,11 @@ proprietary_objects true = record { tag = PROPRIETARY; value = 0x80 ∷ 0x01 ∷
 -- the EF ARR and the record
 abbrev pub rule_objects : Option Rule → List Object
 rule_objects None = []
-rule_objects (Some rule) = record { tag = RULE; value = to_be_bytes w16 rule.file ++ rule.row ∷ [] } ∷ []
+rule_objects (Some rule) = record {
+  tag = RULE;
+  value = to_be_bytes w16 rule.file ++ rule.row
+      ∷ [];
+} ∷ []
 
 abbrev pub sfi_objects : ℕ → List Object
 sfi_objects sfi = if sfi == 0 then [] else record { tag = SFI; value = sfi * 8 ∷ [] } ∷ []
@@ -54,7 +56,8 @@ sfi_objects sfi = if sfi == 0 then [] else record { tag = SFI; value = sfi * 8 �
 -- what only directories have, and what only EFs have
 abbrev pub last_objects : Bool → FileHead → List PinRow → List Object
 last_objects true head pins = status_objects (statuses_of head.path pins)
-last_objects false head pins = record { tag = SIZE; value = to_be_bytes w16 head.size } ∷ sfi_objects head.sfi
+last_objects false head pins = record { tag = SIZE; value = to_be_bytes w16 head.size }
+    ∷ sfi_objects head.sfi
 
 -- the fields, in order
 abbrev pub objects_for : FileHead → List PinRow → List Object
@@ -65,8 +68,8 @@ objects_for head pins =
     ++ record { tag = LIFE; value = life_byte head.life ∷ [] }
     ∷ rule_objects head.rule ++ last_objects (holds_files head.kind) head pins
 
-abbrev pub written : FileHead → List PinRow → List ℕ
-written head pins = shortest TEMPLATE (spelled (objects_for head pins))
+abbrev pub written_fcp : FileHead → List PinRow → List ℕ
+written_fcp head pins = shortest TEMPLATE (spelled (objects_for head pins))
 
 -- the name, where there is one
 abbrev pub name_for : List ℕ → Option (List ℕ)

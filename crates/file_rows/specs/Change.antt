@@ -15,7 +15,7 @@ use Rattle.file_rows.specs.declared.row.FileRow.{FileRow}
 abbrev pub written : ℕ → List ℕ → List ℕ → List ℕ
 written offset bytes body = take offset body ++ bytes ++ drop (offset + length bytes) body
 
--- a body with this record: in its place, or as number 0 in front, where the last record goes
+-- a body with this record: in its place, or as number 0 before the others, of which the last goes
 abbrev pub with_record : ℕ → List ℕ → List ℕ → List ℕ
 with_record zero bytes body = bytes ++ take (length body - length bytes) body
 with_record (suc before) bytes body = written (before * length bytes) bytes body
@@ -30,7 +30,8 @@ new_file head = record { head = head; body = replicate head.size 255 }
 
 -- the files, with the one of that path changed
 abbrev pub with_file : List ℕ → (FileRow → FileRow) → List FileRow → List FileRow
-with_file path change rows = map (λ row. if same_path row.head.path path then change row else row) rows
+with_file path change rows = map
+    (λ row. if same_path row.head.path path then change row else row) rows
 
 abbrev pub with_body : (List ℕ → List ℕ) → FileRow → FileRow
 with_body change row = record { head = row.head; body = change row.body }
@@ -40,6 +41,16 @@ with_life life row = record { head = record row.head { life = life }; body = row
 
 abbrev pub with_size : ℕ → FileRow → FileRow
 with_size size row = record { head = record row.head { size = size }; body = resized size row.body }
+
+-- the named file after a change that it outlasts
+abbrev pub file_after : Change → FileRow → FileRow
+file_after (WriteRange path offset bytes) row = with_body (written offset bytes) row
+file_after (WriteRecord path number bytes) row = with_body (with_record number bytes) row
+file_after (PinSet set) row = row
+file_after (FileAdd head) row = row
+file_after (FileGone path) row = row
+file_after (FileState path life) row = with_life life row
+file_after (FileSize path size) row = with_size size row
 
 -- the PINs, with the one of that number set
 abbrev pub with_pin : PinRow → List PinRow → List PinRow
@@ -58,8 +69,10 @@ changed content (FileGone path) =
       rows = filter (λ row. not (stands_below path row.head.path)) content.rows;
       pins = filter (λ pin. not (stands_below path pin.home)) content.pins;
     }
-changed content (FileState path life) = record content { rows = with_file path (with_life life) content.rows }
-changed content (FileSize path size) = record content { rows = with_file path (with_size size) content.rows }
+changed content (FileState path life) = record content
+    { rows = with_file path (with_life life) content.rows }
+changed content (FileSize path size) = record content
+    { rows = with_file path (with_size size) content.rows }
 
 -- the bytes are a record, and take the place of one or, as number 0, come into a cyclic file
 pub record IsRecordFor (row : FileRow) (number : ℕ) (bytes : List ℕ) : Type 0 where
@@ -99,3 +112,13 @@ Touches (FileAdd head) file = head.path ≡ file
 Touches (FileGone path) file = IsTrue (stands_below path file)
 Touches (FileState path life) file = path ≡ file
 Touches (FileSize path size) file = path ≡ file
+
+-- the PIN is the one that the change sets, or one that goes with its home
+abbrev pub TouchesPin : Change → PinRow → Type 0
+TouchesPin (WriteRange path offset bytes) pin = ⊥
+TouchesPin (WriteRecord path number bytes) pin = ⊥
+TouchesPin (PinSet set) pin = pin.number ≡ set.number
+TouchesPin (FileAdd head) pin = ⊥
+TouchesPin (FileGone path) pin = IsTrue (stands_below path pin.home)
+TouchesPin (FileState path life) pin = ⊥
+TouchesPin (FileSize path size) pin = ⊥

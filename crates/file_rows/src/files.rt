@@ -20,7 +20,7 @@ impl FileHead {
 }
 
 // Whether one of the files is the directory of a file.
-fn has_directory(file: &FileHead, earlier: &[FileRow]) -> bool
+pub fn has_directory(file: &FileHead, earlier: &[FileRow]) -> bool
     ensures { IsTrue result ↔ Any (λ directory. Holds directory file.now) (heads_of earlier.now) }
 {
     for row in earlier {
@@ -33,7 +33,8 @@ fn has_directory(file: &FileHead, earlier: &[FileRow]) -> bool
 
 // Whether each file but the first stands in an earlier one.
 fn stand_in_earlier(rows: &[FileRow]) -> bool
-    ensures { IsTrue result ↔ StandInEarlier (heads_of (take 1 rows.now)) (heads_of (drop 1 rows.now)) }
+    ensures { IsTrue result
+        ↔ StandInEarlier (heads_of (take 1 rows.now)) (heads_of (drop 1 rows.now)) }
 {
     for index in 1..rows.len() {
         if !has_directory(&rows[index].head, &rows[..index]) {
@@ -43,7 +44,7 @@ fn stand_in_earlier(rows: &[FileRow]) -> bool
     true
 }
 
-fn is_root(head: &FileHead) -> bool
+pub fn is_root(head: &FileHead) -> bool
     ensures { IsTrue result ↔ (head.now.kind ≡ Kind.Master) }
 {
     head.kind == Kind::Master
@@ -107,7 +108,7 @@ fn share_name(one: &FileHead, other: &FileHead) -> bool
     !one.name.is_empty() && one.name == other.name
 }
 
-fn is_apart(one: &FileHead, other: &FileHead) -> bool
+pub fn is_apart(one: &FileHead, other: &FileHead) -> bool
     ensures { IsTrue result ↔ AreFilesApart one.now other.now }
 {
     one.path != other.path && !share_sfi(one, other) && !share_name(one, other)

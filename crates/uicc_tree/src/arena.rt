@@ -1,12 +1,14 @@
 ghost use Rattle.std.specs.Prelude.{◌≡◌, ◌≢◌, ℕ, ◌<◌, List, [], ◌∷◌, ◌++◌, length, Contains, IfSome, IfNone, IsTrue, OnOk, ◌↔◌, ◌&&◌, ◌+◌, ◌^◌, ◌⊎◌, false, nat_eq, Some, None, vec_capacity, slice_get, slice_set, slice_index_or};
-ghost use Rattle.uicc_tree.specs.Arena.{files_of, children_of, children_at, child_room_of, marks_of, CanStand, HasDirectory, HasNode, HasPlace, IsArena, IsVacant, StandsIn, Stores};
+ghost use Rattle.uicc_tree.specs.Arena.{files_of, children_of, children_at, child_room_of, marks_of, CanStand, HasDirectory, HasNode, HasPlace, IsArena, IsFree, StandsIn, Stores};
 ghost use Rattle.std.specs.List.{starts_with};
 ghost use Rattle.file_rows.specs.Content.{file_at};
 ghost use Rattle.file_rows.specs.FileHead.{is_application};
+ghost use Rattle.file_rows.specs.Find.{application_named};
 ghost use Rattle.file_rows.specs.Path.{IsIn, master};
-ghost use Rattle.uicc_tree.specs.Files.{IsLive, IsNodeOf, HasSfi, file_of, path_of, rows_of, application_named};
+ghost use Rattle.uicc_tree.specs.Change.{AreRows};
+ghost use Rattle.uicc_tree.specs.Files.{Gives, IsLive, IsNodeOf, HasSfi, file_of, path_of, rows_of};
 
-use file_rows::{FileHead, Kind};
+use file_rows::FileHead;
 use smallvec::SmallVec;
 use std::alloc::{AllocError, Global};
 
@@ -23,7 +25,8 @@ pub struct Slot {
     pub live: bool,
 }
 
-// Nodes, named by their places in `slots`, and those of them that are files, in the order in which they were made.
+// Nodes, named by their places in `slots`, and those of them that are files, in the order in which
+// they were made.
 #[derive(Debug, Drop)]
 pub struct Arena {
     pub slots: Vec<Slot>,
@@ -41,10 +44,10 @@ fn ends_with(path: &[u16], id: u16) -> bool
 }
 
 // Whether this is an application whose name begins so.
-fn is_named(head: &FileHead, front: &[u8]) -> bool
-    ensures { result ≡ is_application head.now.kind && starts_with nat_eq head.now.name front.now }
+fn is_named(head: &FileHead, prefix: &[u8]) -> bool
+    ensures { result ≡ is_application head.now.kind && starts_with nat_eq head.now.name prefix.now }
 {
-    head.kind == Kind::Application && head.name.as_slice().starts_with(front)
+    head.kind.is_application() && head.name.as_slice().starts_with(prefix)
 }
 
 impl Arena {
@@ -80,6 +83,17 @@ impl Arena {
         self.slots[node as usize].children.as_slice()
     }
 
+    // The node of the MF, where there are files.
+    fn master(&self) -> Option<u32>
+        requires { IsArena self.now }
+        ensures found { IfSome result
+            (λ node. IsLive (files_of self.now) node
+            × (path_of (files_of self.now) node ≡ master)) }
+        ensures none { IfNone result ((files_of self.now).nodes ≡ []) }
+    {
+        self.order.first().copied()
+    }
+
     // The node of the file of this identifier in a file.
     pub fn child_with(&self, node: u32, id: u16) -> Option<u32>
         requires arena { IsArena self.now }
@@ -88,8 +102,10 @@ impl Arena {
             × (path_of (files_of self.now) child ≡ path_of (files_of self.now) node ++ id ∷ [])) }
         ensures none { IfNone result ((child : ℕ) → IsLive (files_of self.now) child
             → path_of (files_of self.now) child ≢ path_of (files_of self.now) node ++ id ∷ []) }
-        ensures node { IfSome result (IsNodeOf (files_of self.now) (path_of (files_of self.now) node ++ id ∷ [])) }
-        ensures no_file { IfNone result (file_at (path_of (files_of self.now) node ++ id ∷ []) (rows_of (files_of self.now)) ≡ None) }
+        ensures node { IfSome result (IsNodeOf (files_of self.now)
+            (path_of (files_of self.now) node ++ id ∷ [])) }
+        ensures no_file { IfNone result (file_at (path_of (files_of self.now) node ++ id
+            ∷ []) (rows_of (files_of self.now)) ≡ None) }
     {
         for child in self.children(node) {
             if ends_with(self.head(*child).path.as_slice(), id) {
@@ -102,12 +118,15 @@ impl Arena {
     // The node of the file of this path.
     pub fn find(&self, path: &[u16]) -> Option<u32>
         requires arena { IsArena self.now }
-        ensures found { IfSome result (λ node. IsLive (files_of self.now) node × (path_of (files_of self.now) node ≡ path.now)) }
-        ensures none { IfNone result ((node : ℕ) → IsLive (files_of self.now) node → path_of (files_of self.now) node ≢ path.now) }
+        ensures found { IfSome result
+            (λ node. IsLive (files_of self.now) node
+            × (path_of (files_of self.now) node ≡ path.now)) }
+        ensures none { IfNone result ((node : ℕ) → IsLive (files_of self.now) node
+            → path_of (files_of self.now) node ≢ path.now) }
         ensures node { IfSome result (IsNodeOf (files_of self.now) path.now) }
         ensures no_file { IfNone result (file_at path.now (rows_of (files_of self.now)) ≡ None) }
     {
-        let mut node = *self.order.first()?;
+        let mut node = self.master()?;
         for id in path {
             node = self.child_with(node, *id)?;
         }
@@ -118,8 +137,10 @@ impl Arena {
     pub fn child_with_sfi(&self, node: u32, sfi: u8) -> Option<u32>
         requires arena { IsArena self.now }
         requires live { IsLive (files_of self.now) node }
-        ensures found { IfSome result (HasSfi (files_of self.now) (path_of (files_of self.now) node) sfi) }
-        ensures none { IfNone result ((file : ℕ) → ¬ HasSfi (files_of self.now) (path_of (files_of self.now) node) sfi file) }
+        ensures found { IfSome result (HasSfi (files_of self.now)
+            (path_of (files_of self.now) node) sfi) }
+        ensures none { IfNone result ((file : ℕ)
+            → ¬ HasSfi (files_of self.now) (path_of (files_of self.now) node) sfi file) }
     {
         if sfi == 0 {
             return None;
@@ -132,31 +153,20 @@ impl Arena {
         None
     }
 
-    // The node of the first application whose name begins so.
-    pub fn application_named(&self, front: &[u8]) -> Option<u32>
-        requires { IsArena self.now }
-        ensures found { IfSome result (λ node. IsLive (files_of self.now) node
-            × (application_named front.now (rows_of (files_of self.now)) ≡ Some (file_of (files_of self.now) node))) }
-        ensures none { IfNone result (application_named front.now (rows_of (files_of self.now)) ≡ None) }
+    // The node of the first application whose name begins so. Applications stand in the MF.
+    pub fn application_named(&self, prefix: &[u8]) -> Option<u32>
+        requires arena { IsArena self.now }
+        requires rows { AreRows (rows_of (files_of self.now)) }
+        ensures { Gives (files_of self.now) result
+            (application_named prefix.now (rows_of (files_of self.now))) }
     {
-        for node in self.order.as_slice() {
-            if is_named(self.head(*node), front) {
-                return Some(*node);
+        let master = self.master()?;
+        for child in self.children(master) {
+            if is_named(self.head(*child), prefix) {
+                return Some(*child);
             }
         }
         None
-    }
-
-    // The node of the file in which this one stands.
-    pub fn parent(&self, node: u32) -> Option<u32>
-        requires arena { IsArena self.now }
-        requires live { IsLive (files_of self.now) node }
-        ensures found { IfSome result (λ above. IsLive (files_of self.now) above
-            × IsIn (path_of (files_of self.now) above) (path_of (files_of self.now) node)) }
-        ensures none { IfNone result (path_of (files_of self.now) node ≡ master) }
-    {
-        let (_, directory) = self.head(node).path.as_slice().split_last()?;
-        self.find(directory)
     }
 
     // The node of the file in which a file of this path stands.
@@ -170,10 +180,10 @@ impl Arena {
     }
 
     // A node that is that of no file.
-    fn vacant(&self) -> Option<u32>
+    fn free_node(&self) -> Option<u32>
         requires { length self.now.slots.items < 2 ^ 32 }
-        ensures found { IfSome result (IsVacant self.now) }
-        ensures none { IfNone result ((node : ℕ) → ¬ IsVacant self.now node) }
+        ensures found { IfSome result (IsFree self.now) }
+        ensures none { IfNone result ((node : ℕ) → ¬ IsFree self.now node) }
     {
         for (node, slot) in self.slots.iter().enumerate() {
             if !slot.live {
@@ -189,7 +199,8 @@ impl Arena {
         ensures files { files_of self.new ≡ files_of self.old }
         ensures children { children_of self.new ≡ children_of self.old }
         ensures marks { marks_of self.new ≡ marks_of self.old }
-        ensures slots { (length self.new.slots.items ≡ length self.old.slots.items) × (vec_capacity self.new.slots ≡ vec_capacity self.old.slots) }
+        ensures slots { (length self.new.slots.items ≡ length self.old.slots.items)
+            × (vec_capacity self.new.slots ≡ vec_capacity self.old.slots) }
         ensures order { self.new.order ≡ self.old.order }
         ensures ok { OnOk result (IsTrue (slice_index_or (child_room_of self.new) directory false)) }
     {
@@ -207,7 +218,7 @@ impl Arena {
         ensures few { length self.new.slots.items < 2 ^ 32 }
         ensures ok { OnOk result (HasPlace self.new directory) }
     {
-        if self.vacant().is_none() {
+        if self.free_node().is_none() {
             if self.slots.len() >= MOST_NODES {
                 return Err(AllocError);
             }
@@ -227,10 +238,11 @@ impl Arena {
         ensures order { self.new.order ≡ self.old.order }
         ensures fresh { ¬ IsLive (files_of self.old) result }
         ensures stored { slice_get self.new.slots.items result ≡ Some slot }
-        ensures others { (n : ℕ) → n ≢ result → slice_get self.new.slots.items n ≡ slice_get self.old.slots.items n }
+        ensures others { (n : ℕ) → n ≢ result
+            → slice_get self.new.slots.items n ≡ slice_get self.old.slots.items n }
         ensures few { length self.new.slots.items < 2 ^ 32 }
     {
-        if let Some(node) = self.vacant() {
+        if let Some(node) = self.free_node() {
             self.slots[node as usize] = slot;
             return node;
         }
@@ -251,12 +263,14 @@ impl Arena {
         node
     }
 
-    // Names a node as a child of another one.
-    fn hang(&mut self, directory: u32, node: u32)
+    // Appends a node to the children of another one.
+    fn append_child(&mut self, directory: u32, node: u32)
         requires within { directory < length self.old.slots.items }
         requires room { IsTrue (slice_index_or (child_room_of self.old) directory false) }
         ensures files { files_of self.new ≡ files_of self.old }
-        ensures children { children_of self.new ≡ slice_set (children_of self.old) directory (children_at (children_of self.old) directory ++ node ∷ []) }
+        ensures children { children_of self.new
+            ≡ slice_set (children_of self.old) directory
+            (children_at (children_of self.old) directory ++ node ∷ []) }
         ensures marks { marks_of self.new ≡ marks_of self.old }
         ensures few { length self.new.slots.items ≡ length self.old.slots.items }
     {
@@ -270,9 +284,11 @@ impl Arena {
         requires stands { CanStand (files_of self.old) head.path directory }
         requires room { HasPlace self.old directory }
         ensures arena { IsArena self.new }
-        ensures rows { rows_of (files_of self.new) ≡ rows_of (files_of self.old) ++ record { head = head; body = body.items } ∷ [] }
+        ensures rows { rows_of (files_of self.new) ≡ rows_of (files_of self.old)
+            ++ record { head = head; body = body.items } ∷ [] }
         ensures stay { (node : ℕ) → IsLive (files_of self.old) node
-            → IsLive (files_of self.new) node × (file_of (files_of self.new) node ≡ file_of (files_of self.old) node) }
+            → IsLive (files_of self.new) node
+            × (file_of (files_of self.new) node ≡ file_of (files_of self.old) node) }
     {
         let children = SmallVec::new(*self.order.allocator());
         let node = self.add(Slot {
@@ -282,7 +298,7 @@ impl Arena {
             live: true,
         });
         if let Some(above) = directory {
-            self.hang(above, node);
+            self.append_child(above, node);
         }
     }
 }
