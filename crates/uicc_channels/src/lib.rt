@@ -7,6 +7,7 @@
 mod chan;
 mod decided;
 mod delivery;
+mod guard;
 mod laws;
 mod refusal;
 mod session;
@@ -15,6 +16,7 @@ mod session_change;
 pub use chan::{Chan, Pending};
 pub use decided::Decided;
 pub use delivery::{deliver, delivery_answer, require_le};
+pub use guard::Guard;
 pub use laws::{
     answers_stay_on_their_channel, fresh_sessions_have_their_channels, sessions_suit_their_cards,
     verified_pins_stand_apart,

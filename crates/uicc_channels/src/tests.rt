@@ -3,7 +3,7 @@ ghost use Rattle.std.specs.Prelude.{◌≡◌};
 
 use super::*;
 use apdu_codec::{Answer, Class, Command, Sw, ins};
-use file_rows::{Life, Path};
+use file_rows::{Life, Mode, Path};
 
 // An answer body of so many bytes, the Le of its command, the status word, and how many of its
 // bytes are given.
@@ -221,4 +221,31 @@ fn a_channel_has_its_master_file_or_the_isdr(rt: HostRuntime) {
     assert_eq!(rt; master.pending.as_slice(), [0x01].as_slice());
     assert!(rt; !master.isdr && Chan::at_isdr().isdr);
     assert!(rt; master.copy() == master);
+}
+
+// A guard that allows everything.
+#[derive(Drop)]
+struct Open;
+
+impl Guard for Open {
+    ghost use Rattle.std.specs.Prelude.{⊤, true};
+
+    ghost knows = { λ _ _. ⊤ };
+
+    ghost answer = { λ _ _ _ _. true };
+
+    fn allows(&self, _node: u32, _mode: Mode, _session: &Session) -> bool {
+        true
+    }
+}
+
+fn may_read<G: Guard>(guard: &G, node: u32, session: &Session) -> bool
+    requires { G.knows guard.now node }
+{
+    guard.allows(node, Mode::Bit(0x01), session)
+}
+
+#[test]
+fn a_guard_is_asked_by_node_and_mode(rt: HostRuntime) {
+    assert!(rt; may_read(&Open, 3, &fresh(false, None)));
 }
