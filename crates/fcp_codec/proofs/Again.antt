@@ -30,7 +30,7 @@ use Rattle.fcp_codec.specs.RuleRef.{rule_of}
 use Rattle.fcp_codec.specs.PinStatus.{status_of, statuses_of, status_objects, template_of, key_object, status_bytes}
 use Rattle.file_rows.specs.Path.{own_id}
 use Rattle.fcp_codec.specs.Writing.{descriptor_for, life_byte, name_objects, proprietary_objects, rule_objects, last_objects, objects_for, fcp_for, name_for, size_for, sfi_for, FitsFields}
-use Rattle.fcp_codec.specs.Reading.{NoneIsBad, fcp_of, ReadsAs}
+use Rattle.fcp_codec.specs.Reading.{NoneIsBad, fcp_of, ReadsAsFcp}
 
 -- two bytes say the number
 two_bytes : (n : ℕ) → n < 2 ^ 16 → n / 256 % 256 * 256 + n % 256 ≡ n
@@ -253,7 +253,7 @@ shape_of head pins false h =
     elementary_shape (descriptor_for head.kind head.record_len head.size) (own_id head.path) head.life head.name head.rule head.size head.sfi (eqb head.sfi 0)
     (has_form head.kind head.record_len head.size) (short_descriptor head.kind head.record_len head.size) h.id h.name h.rule h.size h.sfi
 
-pub again : (head : FileHead) (pins : List PinRow) → FitsFields head → ReadsAs (spelled (objects_for head pins)) (fcp_for head)
+pub again : (head : FileHead) (pins : List PinRow) → FitsFields head → ReadsAsFcp (spelled (objects_for head pins)) (fcp_for head)
 again head pins h =
     let objects = objects_for head pins in
     let shape = shape_of head pins (holds_files head.kind) h in

@@ -11,7 +11,7 @@ use Rattle.fcp_codec.specs.declared.fault.FcpFault.{FcpFault}
 use Rattle.fcp_codec.specs.declared.fault.FcpFault.TheVariants.{BadField}
 use Rattle.fcp_codec.specs.declared.fcp.Fcp.{Fcp}
 use Rattle.fcp_codec.specs.declared.read.Fields.{Fields}
-use Rattle.fcp_codec.specs.Reading.{is_bad, NoneIsBad, StopsAt, Answers, fcp_of}
+use Rattle.fcp_codec.specs.Reading.{is_bad, NoneIsBad, StopsAt, ReadsFcp, fcp_of}
 use Rattle.fcp_codec.specs.State.{Keep, TakesOneMore}
 
 no_object : (t : ℕ) (v r : List ℕ) → ¬ BeginsWith [] t v r
@@ -93,7 +93,7 @@ one_place before bytes (x ∷ os) (y ∷ ps) r s t u p good stop q fine halt =
     (subst (λ b. LeadWith b os r) h.1 p.2) good.1 (regroup (λ o. StopsAt o r t) before x x os refl stop)
     q.2 (subst (λ o. NoneIsBad (before ++ o ∷ []) ps) (sym h.0) fine.1) (regroup (λ o. StopsAt o s u) before x y ps h.0 halt)
 
-pub one_answer : (value : List ℕ) (a b : Result Fcp FcpFault) → Answers value a → Answers value b → a ≡ b
+pub one_answer : (value : List ℕ) (a b : Result Fcp FcpFault) → ReadsFcp value a → ReadsFcp value b → a ≡ b
 one_answer value (Ok x) (Ok y) p q = ap Ok (p.says ∙ ap fcp_of (one_list value p.objects q.objects p.whole q.whole) ∙ sym q.says)
 one_answer value (Ok x) (Err (BadField tag)) p q = absurd (not_both [] value p.objects q.objects q.rest tag p.whole p.good q.front q.stop)
 one_answer value (Err (BadField tag)) (Ok y) p q = absurd (not_both [] value q.objects p.objects p.rest tag q.whole q.good p.front p.stop)
@@ -127,15 +127,15 @@ gone_on value rest behind object old new p b taken =
     }
 
 pub stopped : (value rest behind : List ℕ) (object : Object) (old new : Fields) (fault : FcpFault) → Progress value rest old → BeginsWith rest object.tag object.value behind
-    → ((objects : List Object) → Keep objects old → TakesOneMore objects object new (Err fault)) → Answers value (Err fault)
+    → ((objects : List Object) → Keep objects old → TakesOneMore objects object new (Err fault)) → ReadsFcp value (Err fault)
 stopped value rest behind object old new (BadField tag) p b taken =
     let h = taken p.objects p.kept in
     let e : tag ≡ object.tag = cc in
     record { objects = p.objects; rest = rest; front = p.front; good = p.good; stop = inl (object, behind, b, h.0, e) }
 
-pub broken : (value rest : List ℕ) (fields : Fields) (fault : TlvFault) → Progress value rest fields → rest ≢ [] → Refuses rest fault → Answers value (Err (BadField 0))
+pub broken : (value rest : List ℕ) (fields : Fields) (fault : TlvFault) → Progress value rest fields → rest ≢ [] → Refuses rest fault → ReadsFcp value (Err (BadField 0))
 broken value rest fields fault p n r =
     record { objects = p.objects; rest = rest; front = p.front; good = p.good; stop = inr (n, fault, r, refl) }
 
-pub read : (value : List ℕ) (fields : Fields) (fcp : Fcp) → Progress value [] fields → ((objects : List Object) → Keep objects fields → fcp ≡ fcp_of objects) → Answers value (Ok fcp)
+pub read : (value : List ℕ) (fields : Fields) (fcp : Fcp) → Progress value [] fields → ((objects : List Object) → Keep objects fields → fcp ≡ fcp_of objects) → ReadsFcp value (Ok fcp)
 read value fields fcp p says = record { objects = p.objects; whole = p.front; good = p.good; says = says p.objects p.kept }

@@ -56,7 +56,7 @@ StopsAt before rest tag =
     ⊎ ((rest ≢ []) × (fault : TlvFault) × Refuses rest fault × (tag ≡ 0))
 
 -- a value that is objects without a bad one, and what their fields say
-pub record ReadsAs (value : List ℕ) (fcp : Fcp) : Type 0 where
+pub record ReadsAsFcp (value : List ℕ) (fcp : Fcp) : Type 0 where
   pub objects : List Object
   pub whole : LeadWith value objects []
   pub good : NoneIsBad [] objects
@@ -71,6 +71,6 @@ pub record RefusedAt (value : List ℕ) (tag : ℕ) : Type 0 where
   pub stop : StopsAt objects rest tag
 
 -- what reading a value answers
-abbrev pub Answers : List ℕ → Result Fcp FcpFault → Type 0
-Answers value (Ok fcp) = ReadsAs value fcp
-Answers value (Err (BadField tag)) = RefusedAt value tag
+abbrev pub ReadsFcp : List ℕ → Result Fcp FcpFault → Type 0
+ReadsFcp value (Ok fcp) = ReadsAsFcp value fcp
+ReadsFcp value (Err (BadField tag)) = RefusedAt value tag

@@ -6,13 +6,13 @@ ghost use Rattle.file_rows.specs.declared.head.FileHead.{FileHead};
 ghost use Rattle.file_rows.specs.declared.pin.PinRow.{PinRow};
 ghost use Rattle.file_rows.specs.PinRow.{IsGlobalKey, IsLocalKey};
 ghost use Rattle.fcp_codec.specs.PinStatus.{counts_in, keys_of};
-ghost use Rattle.fcp_codec.specs.Reading.{ReadsAs};
+ghost use Rattle.fcp_codec.specs.Reading.{ReadsAsFcp};
 ghost use Rattle.fcp_codec.specs.Writing.{objects_for, fcp_for, FitsFields};
 
 /// What is written of a file is read again as it was.
 pub fn written_is_read()
     ensures { (head : FileHead) (pins : List PinRow) → FitsFields head
-        → ReadsAs (spelled (objects_for head pins)) (fcp_for head) }
+        → ReadsAsFcp (spelled (objects_for head pins)) (fcp_for head) }
 {}
 
 /// The keys in the list of PINs of a directory's control parameters (ETSI TS 102 221, PIN status

@@ -4,7 +4,7 @@ ghost use Rattle.ber_tlv.specs.Walk.{Object, object_of};
 ghost use Rattle.fcp_codec.specs.declared.fault.FcpFault.{FcpFault};
 ghost use Rattle.fcp_codec.specs.declared.fcp.Fcp.{Fcp};
 ghost use Rattle.fcp_codec.specs.State.{Keep, TakesOneMore};
-ghost use Rattle.fcp_codec.specs.Reading.{Answers, fcp_of};
+ghost use Rattle.fcp_codec.specs.Reading.{ReadsFcp, fcp_of};
 
 use crate::fault::FcpFault;
 use crate::fcp::{Fcp, RuleRef};
@@ -117,7 +117,7 @@ impl Fields {
 
 // The one answer.
 fn answer_of(value: &[u8]) -> Result<Fcp, FcpFault>
-    ensures { Answers value.now result }
+    ensures { ReadsFcp value.now result }
 {
     let mut fields = Fields::new();
     for item in Walk::new(value) {
@@ -136,9 +136,9 @@ fn answer_of(value: &[u8]) -> Result<Fcp, FcpFault>
 /// The first field is refused that stands there again or is malformed, and so is a broken list of
 /// fields.
 pub fn read_fcp(value: &[u8]) -> Result<Fcp, FcpFault>
-    ensures answer { Answers value.now result }
+    ensures answer { ReadsFcp value.now result }
     // There is no other answer.
-    ensures only { (other : Result Fcp FcpFault) → Answers value.now other → result ≡ other }
+    ensures only { (other : Result Fcp FcpFault) → ReadsFcp value.now other → result ≡ other }
 {
     answer_of(value)
 }

@@ -1,5 +1,3 @@
-ghost use Rattle.std.specs.Prelude.{◌≡◌, []};
-
 use super::*;
 use file_rows::{FileHead, Kind, Life, Name, Path, PinRow, Rule};
 use plain_lists::ShortList;
@@ -25,14 +23,7 @@ const RULE_1: Rule = Rule {
     row: 1,
 };
 
-fn head(path: &[u16; 1], kind: Kind) -> FileHead
-    ensures path { result.path ≡ path.now }
-    ensures kind { result.kind ≡ kind }
-    ensures name { result.name ≡ [] }
-    ensures sfi { result.sfi ≡ 0 }
-    ensures record_len { result.record_len ≡ 0 }
-    ensures size { result.size ≡ 0 }
-{
+fn head(path: &[u16; 1], kind: Kind) -> FileHead {
     FileHead {
         path: Path::from_slice(path),
         kind,
@@ -64,15 +55,18 @@ fn writes_what_a_card_answers(rt: HostRuntime) {
 
     let mut master = head(&[0], Kind::Master);
     master.path = Path::new();
+    assert!(rt; master.is_file());
     assert_eq!(rt; put_fcp(&master, &pins).as_slice(), MASTER);
 
     let mut iccid = head(&[0x2FE2], Kind::Transparent);
     iccid.size = 10;
     iccid.sfi = 2;
+    assert!(rt; iccid.is_file());
     assert_eq!(rt; put_fcp(&iccid, &pins).as_slice(), ICCID);
 
     let mut usim = head(&[0x7FD0], Kind::Application);
     usim.name = Name::from_slice(USIM_NAME);
+    assert!(rt; usim.is_file());
     assert_eq!(rt; put_fcp(&usim, &pins).as_slice(), USIM);
 }
 
@@ -91,6 +85,7 @@ fn writes_records(rt: HostRuntime) {
     let expected: &[u8] =
         b"\x62\x17\x82\x05\x42\x21\x00\x1C\x05\x83\x02\x6F\x3C\x8A\x01\x05\x8B\x03\x2F\x06\x01\
         \x80\x02\x00\x8C";
+    assert!(rt; records.is_file());
     assert_eq!(rt; put_fcp(&records, &[]).as_slice(), expected);
 }
 

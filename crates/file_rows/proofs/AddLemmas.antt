@@ -1,5 +1,5 @@
 -- A new file.
-use Rattle.std.proofs.Common.{◌≡◌, ◌≢◌, ◌↔◌, ℕ, ◌+◌, ◌≤◌, Bool, List, [], ◌∷◌, ◌++◌, length, map, replicate, refl, sym, ◌∙◌, ap, subst, Option, Some, None, ⊎_elim, inr, arith}
+use Rattle.std.proofs.Common.{◌≡◌, ◌≢◌, ◌↔◌, ℕ, ◌+◌, List, [], ◌∷◌, ◌++◌, length, refl, sym, ap, subst, ⊎_elim, inr, arith}
 use Rattle.std.proofs.lemmas.List.{length-replicate, map-append}
 use Rattle.std.proofs.lemmas.List.Sums.{sum_by-append, sum_by-cons}
 use Rattle.std.specs.Bool.{IsTrue}
@@ -18,7 +18,7 @@ use Rattle.file_rows.specs.declared.pin.PinRow.{PinRow}
 use Rattle.file_rows.specs.declared.row.FileRow.{FileRow}
 use Rattle.file_rows.proofs.ChangeLemmas.{same_path-other}
 use Rattle.file_rows.proofs.EachLemmas.{each_both, each_of_map, each_weaker}
-use Rattle.file_rows.proofs.ListLemmas.{any_left, any_of_map, each_append, each_left, each_right, two_last, two_push}
+use Rattle.file_rows.proofs.ListLemmas.{any_left, any_of_map, each_append, each_right, two_last, two_push}
 use Rattle.file_rows.proofs.TreeLemmas.{tree_last, tree_push}
 
 module _ (head : FileHead) where

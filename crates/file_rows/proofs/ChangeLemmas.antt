@@ -5,7 +5,7 @@ use Rattle.std.proofs.lemmas.List.Folds.{find-append}
 use Rattle.std.specs.List.{filter}
 use Rattle.std.specs.Prelude.{IsNone, IsTrue}
 use Rattle.std.specs.Option.{option_or}
-use Rattle.file_rows.specs.Change.{changed, new_file, with_body, with_file, with_life, with_record, with_size, written, Touches}
+use Rattle.file_rows.specs.Change.{changed, new_file, with_body, with_file, with_life, with_record, with_size, written, TouchesFile}
 use Rattle.file_rows.specs.Content.{file_at}
 use Rattle.file_rows.specs.Path.{same_path, stands_below}
 use Rattle.file_rows.specs.declared.change.Change.{Change}
@@ -82,7 +82,7 @@ file_at-added head rows absent = rw (find-append, absent, same_path-refl head.pa
 file_at-beside : (head : FileHead) (path : List ℕ) (rows : List FileRow) → (head.path ≡ path → ⊥) → file_at path (rows ++ new_file head ∷ []) ≡ file_at path rows
 file_at-beside head path rows apart = rw (find-append, same_path-other head.path path apart) (or_none (file_at path rows))
 
-pub others : (content : Content) (change : Change) (path : List ℕ) → (Touches change path → ⊥) → file_at path (changed content change).rows ≡ file_at path content.rows
+pub others : (content : Content) (change : Change) (path : List ℕ) → (TouchesFile change path → ⊥) → file_at path (changed content change).rows ≡ file_at path content.rows
 others content (WriteRange path offset bytes) file apart = file_at-with_file path file (with_body (written offset bytes)) (λ row. refl) apart content.rows
 others content (WriteRecord path number bytes) file apart = file_at-with_file path file (with_body (with_record number bytes)) (λ row. refl) apart content.rows
 others content (PinSet set) file apart = refl

@@ -1,13 +1,12 @@
 -- Just when a change fits a valid content, by the kind of the change.
-use Rattle.std.proofs.Common.{◌≡◌, ◌↔◌, ◌⊎◌, ℕ, zero, suc, ◌+◌, ◌-◌, ◌*◌, ◌≤◌, Bool, List, [], ◌∷◌, ◌++◌, length, take, drop, replicate, refl, sym, ◌∙◌, ap, subst, Option, Some, None, ⊎_elim, arith}
+use Rattle.std.proofs.Common.{◌≡◌, ◌↔◌, ℕ, zero, suc, ◌+◌, ◌-◌, ◌*◌, ◌≤◌, Bool, List, ◌++◌, length, take, drop, replicate, refl, sym, ◌∙◌, ap, subst, Option, Some, None, ⊎_elim, arith}
 use Rattle.std.proofs.lemmas.List.{length-append, length-drop, length-replicate, length-take, length-take-le}
 use Rattle.std.specs.Bool.{IsTrue}
-use Rattle.std.specs.List.{AllByRecursion, find}
-use Rattle.std.specs.Prelude.{IsSome, IsSomeAnd, is_some}
+use Rattle.std.specs.Prelude.{IsSome, is_some}
 use Rattle.file_rows.specs.Change.{Fits, IsRecordFor, resized, with_body, with_file, with_life, with_record, with_size, written}
 use Rattle.file_rows.specs.Conditions.{IsInsideBody, IsRecordOf, IsSizeOf, MeetsConditions}
-use Rattle.file_rows.specs.Content.{IsValid, file_at, heads_of}
-use Rattle.file_rows.specs.FileHead.{HasForm, HoldsRecords, IsApplication, IsDirectory, IsFile, IsMaster, IsTransparent}
+use Rattle.file_rows.specs.Content.{IsValid, file_at}
+use Rattle.file_rows.specs.FileHead.{HasForm, HoldsRecords, IsFile}
 use Rattle.file_rows.specs.Path.{same_path}
 use Rattle.file_rows.specs.declared.change.Change.{Change}
 use Rattle.file_rows.specs.declared.change.Change.TheVariants.{WriteRange, WriteRecord, PinSet, FileAdd, FileGone, FileState, FileSize}

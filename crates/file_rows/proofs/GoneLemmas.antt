@@ -1,8 +1,8 @@
 -- A file that goes, with all files below it and the PINs at home there.
-use Rattle.std.proofs.Common.{◌≡◌, ◌≢◌, ◌⊎◌, ℕ, ◌+◌, ◌≤◌, Bool, true, false, not, List, [], ◌∷◌, ◌++◌, length, map, filter, refl, sym, ◌∙◌, ap, subst, ⊎_elim, inl, inr, arith}
+use Rattle.std.proofs.Common.{◌≡◌, ◌≢◌, ◌⊎◌, ℕ, ◌+◌, Bool, true, false, not, List, [], ◌∷◌, ◌++◌, length, filter, refl, sym, ◌∙◌, ap, subst, ⊎_elim, inl, inr, arith}
 use Rattle.std.proofs.lemmas.Bool.{true≢false}
 use Rattle.std.specs.Bool.{IsTrue}
-use Rattle.std.specs.List.{Any, AllByRecursion}
+use Rattle.std.specs.List.{AllByRecursion}
 use Rattle.plain_lists.specs.EachTwo.{EachTwo}
 use Rattle.file_rows.specs.Change.{changed}
 use Rattle.file_rows.specs.Content.{AreFiles, ArePins, AreTree, IsAtHome, IsFileSystem, IsValid, heads_of, use_of}

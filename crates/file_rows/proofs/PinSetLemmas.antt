@@ -1,14 +1,12 @@
 -- A PIN of a card set.
-use Rattle.std.proofs.Common.{◌≡◌, ◌≢◌, ◌↔◌, ℕ, suc, ◌≤◌, Bool, true, false, cond, ◌==◌, List, [], ◌∷◌, ◌++◌, length, refl, sym, ◌∙◌, ap, subst, ⊎_elim, inr, arith}
-use Rattle.std.proofs.lemmas.Bool.{true≢false}
+use Rattle.std.proofs.Common.{◌≡◌, ◌≢◌, ◌↔◌, suc, false, ◌==◌, List, [], ◌∷◌, ◌++◌, length, refl, sym, ◌∙◌, ap, subst, ⊎_elim, inr, arith}
 use Rattle.std.proofs.lemmas.Bool.Decides.{Decides-eqb}
-use Rattle.std.proofs.lemmas.List.{length-append}
 use Rattle.std.specs.Bool.{IsTrue}
 use Rattle.std.specs.List.{Any, AllByRecursion}
 use Rattle.plain_lists.specs.EachTwo.{EachTwo}
 use Rattle.file_rows.specs.Change.{Fits, KeepsPin, with_pin}
 use Rattle.file_rows.specs.Conditions.{IsPinOf}
-use Rattle.file_rows.specs.Content.{ArePins, IsAtHome, IsFileSystem, IsValid, heads_of}
+use Rattle.file_rows.specs.Content.{ArePins, IsAtHome, IsValid, heads_of}
 use Rattle.file_rows.specs.FileHead.{holds_files}
 use Rattle.file_rows.specs.PinRow.{IsPin, ShareKey}
 use Rattle.file_rows.specs.declared.change.Change.TheVariants.{PinSet}

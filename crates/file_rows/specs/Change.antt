@@ -104,14 +104,14 @@ pub record Fits (content : Content) (change : Change) : Type 0 where
   pub after : IsValid (changed content change)
 
 -- the file is the one that the change names, or one that goes with it
-abbrev pub Touches : Change → List ℕ → Type 0
-Touches (WriteRange path offset bytes) file = path ≡ file
-Touches (WriteRecord path number bytes) file = path ≡ file
-Touches (PinSet set) file = ⊥
-Touches (FileAdd head) file = head.path ≡ file
-Touches (FileGone path) file = IsTrue (stands_below path file)
-Touches (FileState path life) file = path ≡ file
-Touches (FileSize path size) file = path ≡ file
+abbrev pub TouchesFile : Change → List ℕ → Type 0
+TouchesFile (WriteRange path offset bytes) file = path ≡ file
+TouchesFile (WriteRecord path number bytes) file = path ≡ file
+TouchesFile (PinSet set) file = ⊥
+TouchesFile (FileAdd head) file = head.path ≡ file
+TouchesFile (FileGone path) file = IsTrue (stands_below path file)
+TouchesFile (FileState path life) file = path ≡ file
+TouchesFile (FileSize path size) file = path ≡ file
 
 -- the PIN is the one that the change sets, or one that goes with its home
 abbrev pub TouchesPin : Change → PinRow → Type 0

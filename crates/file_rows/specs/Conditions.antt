@@ -1,5 +1,5 @@
 -- What a change needs, so that a valid content is valid after it too.
-use Rattle.std.specs.Prelude.{ℕ, ◌≡◌, ◌≢◌, ◌≤◌, ◌+◌, List, length, Any, IsSome, IsSomeAnd}
+use Rattle.std.specs.Prelude.{ℕ, ◌≢◌, ◌≤◌, ◌+◌, List, length, Any, IsSome, IsSomeAnd}
 use Rattle.std.specs.List.{AllByRecursion}
 use Rattle.file_rows.specs.Apart.{AreFilesApart}
 use Rattle.file_rows.specs.Change.{IsRecordFor, KeepsPin}

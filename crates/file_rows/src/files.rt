@@ -7,7 +7,7 @@ ghost use Rattle.file_rows.specs.Content.{AreFiles, AreTree, StandInEarlier, hea
 ghost use Rattle.file_rows.specs.FileHead.{Holds, IsFile, ShareName, ShareSfi};
 ghost use Rattle.file_rows.specs.Path.{IsIn};
 
-use crate::form::{is_file, is_in};
+use crate::form::is_in;
 use crate::{FileHead, FileRow, Kind};
 
 impl FileHead {
@@ -78,7 +78,7 @@ fn are_formed(rows: &[FileRow]) -> bool
         ↔ AllByRecursion (λ row. IsFile row.head × (length row.body ≡ row.head.size)) rows.now }
 {
     for row in rows {
-        if !is_file(&row.head) || row.body.len() != usize::from(row.head.size) {
+        if !row.head.is_file() || row.body.len() != usize::from(row.head.size) {
             return false;
         }
     }

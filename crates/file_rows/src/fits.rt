@@ -9,7 +9,6 @@ ghost use Rattle.file_rows.specs.FileHead.{Holds, IsFile};
 ghost use Rattle.file_rows.specs.Path.{same_path};
 
 use crate::files::{has_directory, is_apart, is_root};
-use crate::form::is_file;
 use crate::pins::is_pin;
 use crate::{Change, Content, FileHead, FileRow, Kind, Path, Piece, PinRow, QUOTA, used};
 
@@ -89,7 +88,7 @@ fn is_size_for(row: &FileRow, size: u16, used: u32) -> bool
 {
     let mut head = row.head.copy();
     head.size = size;
-    is_file(&head) && used + u32::from(size) <= QUOTA + u32::from(row.head.size)
+    head.is_file() && used + u32::from(size) <= QUOTA + u32::from(row.head.size)
 }
 
 impl Content {
@@ -128,7 +127,7 @@ impl Content {
         ensures { IsTrue result ↔ IsNewFile self.now.rows head.now }
     {
         let rows = self.rows.as_slice();
-        is_file(head)
+        head.is_file()
             && !is_root(head)
             && used(self) + (u32::from(head.size) + 32) <= QUOTA
             && has_place(rows, head)

@@ -81,8 +81,11 @@ fn has_form(head: &FileHead) -> bool
     }
 }
 
-pub fn is_file(head: &FileHead) -> bool
-    ensures { IsTrue result ↔ IsFile head.now }
-{
-    head.path.len() <= 4 && has_form(head)
+impl FileHead {
+    /// Whether the head is one that a file may have: it has the form of its kind. It takes no memory.
+    pub fn is_file(&self) -> bool
+        ensures { IsTrue result ↔ IsFile self.now }
+    {
+        self.path.len() <= 4 && has_form(self)
+    }
 }

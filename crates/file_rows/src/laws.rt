@@ -4,7 +4,7 @@ ghost use Rattle.file_rows.specs.declared.content.Content.{Content};
 ghost use Rattle.file_rows.specs.declared.head.FileHead.{FileHead};
 ghost use Rattle.file_rows.specs.declared.pin.PinRow.{PinRow};
 ghost use Rattle.file_rows.specs.declared.row.FileRow.{FileRow};
-ghost use Rattle.file_rows.specs.Change.{Fits, Touches, TouchesPin, changed, new_file};
+ghost use Rattle.file_rows.specs.Change.{Fits, TouchesFile, TouchesPin, changed, new_file};
 ghost use Rattle.file_rows.specs.Conditions.{MeetsConditions};
 ghost use Rattle.file_rows.specs.Content.{AreFiles, IsValid, file_at};
 ghost use Rattle.file_rows.specs.Find.{child_with_sfi};
@@ -16,7 +16,7 @@ use crate::{CURRENT_APPLICATION_ID, MASTER_FILE_ID};
 /// body of FF, and of a file that goes nothing is left: no file at its path or below it, and no PIN
 /// at home there. A PIN that is set is the one with its number.
 pub fn changes_are_local()
-    ensures others { (content : Content) (change : Change) (path : List ℕ) → ¬ Touches change path
+    ensures others { (content : Content) (change : Change) (path : List ℕ) → ¬ TouchesFile change path
         → file_at path (changed content change).rows ≡ file_at path content.rows }
     ensures added { (content : Content) (head : FileHead) → IsNone (file_at head.path content.rows)
         → file_at head.path (changed content (Change.FileAdd head)).rows ≡ Some (new_file head) }

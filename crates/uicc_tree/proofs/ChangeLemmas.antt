@@ -1,4 +1,4 @@
-use Rattle.std.proofs.Common.{◌≡◌, ◌≢◌, ℕ, Bool, true, false, cond, List, ◌∷◌, [], ◌++◌, map, Contains, refl, sym, ◌∙◌, ap, subst, Option, Some, None, arith, ⊎_elim}
+use Rattle.std.proofs.Common.{◌≡◌, ◌≢◌, ℕ, Bool, true, false, cond, List, ◌∷◌, [], map, Contains, refl, sym, ◌∙◌, ap, subst, Option, Some, None, arith, ⊎_elim}
 use Rattle.std.proofs.lemmas.Bool.{cases_eq}
 use Rattle.std.proofs.lemmas.List.{get_or-set_other, get_or-set_same, length-map, length-set}
 use Rattle.std.proofs.lemmas.Slice.Eq.{bytes_eq-Decides}
@@ -9,7 +9,7 @@ use Rattle.file_rows.specs.declared.row.FileRow.{FileRow}
 use Rattle.file_rows.proofs.ListLemmas.{contains_first, contains_later}
 use Rattle.file_rows.proofs.ChangeLemmas.{same_path-other}
 use Rattle.uicc_tree.specs.Arena.{ChangesCell, IsArena, cell_of, IsTree, children_of, files_of, mark_at, with_cell}
-use Rattle.uicc_tree.specs.Change.{Changes}
+use Rattle.uicc_tree.specs.Change.{ChangesFile}
 use Rattle.uicc_tree.specs.Files.{Files, IsLive, file_of, no_file, path_of, rows_of}
 use Rattle.uicc_tree.specs.declared.arena.Arena.{Arena}
 use Rattle.uicc_tree.proofs.FilterLemmas.{filter-same}
@@ -95,7 +95,7 @@ module _ (old new : Arena) (node : ℕ) (path : List ℕ) (change : FileRow → 
 
 -- one file is changed, by its node
 pub changes_file : (old new : Arena) (node : ℕ) (path : List ℕ) (change : FileRow → FileRow) → IsArena old → IsLive (files_of old) node → path_of (files_of old) node ≡ path
-    → ((row : FileRow) → (change row).head.path ≡ row.head.path) → ChangesCell old new node (change (file_of (files_of old) node)) → Changes old new path change
+    → ((row : FileRow) → (change row).head.path ≡ row.head.path) → ChangesCell old new node (change (file_of (files_of old) node)) → ChangesFile old new path change
 changes_file old new node path change arena live at keeps changes = record {
   arena = arena_same old new node path change arena live at keeps changes;
   rows = rows_same old new node path change arena live at keeps changes;

@@ -1,5 +1,4 @@
-use Rattle.std.proofs.Common.{◌≡◌, Bool, true, false, cond, ◌&&◌, List, ◌∷◌, [], ◌++◌, map, filter, Contains, refl, sym, ◌∙◌, ap, subst, ⊎_elim, arith}
-use Rattle.std.proofs.lemmas.Bool.{true≢false}
+use Rattle.std.proofs.Common.{◌≡◌, Bool, true, false, cond, ◌&&◌, List, ◌∷◌, [], ◌++◌, map, filter, Contains, refl, sym, ◌∙◌, ap, subst}
 use Rattle.std.specs.List.Retain.{RetainsInTurn}
 use Rattle.file_rows.proofs.ListLemmas.{contains_first, contains_later}
 

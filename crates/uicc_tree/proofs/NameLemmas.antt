@@ -1,5 +1,5 @@
 -- Applications stand in the MF, so a search among its children finds each.
-use Rattle.std.proofs.Common.{◌≡◌, ℕ, Bool, true, ◌&&◌, List, [], ◌∷◌, map, find, filter, nat_eq, Contains, refl, sym, ◌∙◌, ap, subst, ⊎_elim, Option}
+use Rattle.std.proofs.Common.{◌≡◌, ℕ, Bool, true, ◌&&◌, List, [], ◌∷◌, map, find, nat_eq, Contains, refl, sym, ◌∙◌, ap, subst, ⊎_elim}
 use Rattle.std.proofs.lemmas.Bool.{true≢false}
 use Rattle.std.specs.List.{AllByRecursion, starts_with}
 use Rattle.file_rows.specs.Content.{heads_of}

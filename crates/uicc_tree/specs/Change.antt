@@ -62,7 +62,7 @@ pub record IsKept (held : Arena) (spare : List ℕ) (room : Room) : Type 0 where
   pub ready : IsReady held spare room
 
 -- one file is changed, and each keeps its node and its path
-pub record Changes (old new : Arena) (path : List ℕ) (change : FileRow → FileRow) : Type 0 where
+pub record ChangesFile (old new : Arena) (path : List ℕ) (change : FileRow → FileRow) : Type 0 where
   pub arena : IsArena new
   pub rows : rows_of (files_of new) ≡ with_file path change (rows_of (files_of old))
   pub nodes : (files_of new).nodes ≡ (files_of old).nodes

@@ -4,7 +4,7 @@ ghost use Rattle.file_rows.specs.Change.{with_body, with_life, with_record, with
 ghost use Rattle.file_rows.specs.Content.{file_at};
 ghost use Rattle.file_rows.specs.Path.{stands_below};
 ghost use Rattle.uicc_tree.specs.Arena.{body_room_of, files_of, HasPlace, IsArena, StandsIn};
-ghost use Rattle.uicc_tree.specs.Change.{Changes, IsRow};
+ghost use Rattle.uicc_tree.specs.Change.{ChangesFile, IsRow};
 ghost use Rattle.uicc_tree.specs.Files.{path_of, rows_of, IsLive};
 
 use crate::arena::Arena;
@@ -16,7 +16,7 @@ impl Arena {
         requires arena { IsArena self.old }
         requires there { IsSomeAnd (file_at path.now (rows_of (files_of self.old)))
             (λ row. offset + length bytes.now ≤ length row.body) }
-        ensures { Changes self.old self.new path.now (with_body (written offset bytes.now)) }
+        ensures { ChangesFile self.old self.new path.now (with_body (written offset bytes.now)) }
     {
         if let Some(node) = self.find(path) {
             self.write(node, usize::from(offset), bytes);
@@ -27,7 +27,7 @@ impl Arena {
         requires arena { IsArena self.old }
         requires there { IsSomeAnd (file_at path.now (rows_of (files_of self.old)))
             (λ row. IsRecordFor row number bytes.now × IsRow row) }
-        ensures { Changes self.old self.new path.now (with_body (with_record number bytes.now)) }
+        ensures { ChangesFile self.old self.new path.now (with_body (with_record number bytes.now)) }
     {
         if let Some(node) = self.find(path) {
             if number == 0 {
@@ -42,7 +42,7 @@ impl Arena {
     pub fn change_life(&mut self, path: &[u16], life: Life)
         requires arena { IsArena self.old }
         requires there { IsSome (file_at path.now (rows_of (files_of self.old))) }
-        ensures { Changes self.old self.new path.now (with_life life) }
+        ensures { ChangesFile self.old self.new path.now (with_life life) }
     {
         if let Some(node) = self.find(path) {
             self.set_life(node, life);
@@ -53,7 +53,7 @@ impl Arena {
         requires arena { IsArena self.old }
         requires live { IsLive (files_of self.old) node }
         requires room { size ≤ slice_index (body_room_of self.old) node }
-        ensures { Changes self.old self.new (path_of (files_of self.old) node) (with_size size) }
+        ensures { ChangesFile self.old self.new (path_of (files_of self.old) node) (with_size size) }
     {
         self.resize(node, size);
     }

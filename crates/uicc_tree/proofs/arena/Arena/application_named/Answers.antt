@@ -1,10 +1,7 @@
-use Rattle.std.proofs.Common.{◌≡◌, ℕ, ◌∷◌, [], map, None, find, take, sym, ◌∙◌, ap}
+use Rattle.std.proofs.Common.{map, find, sym, ◌∙◌, ap}
 use Rattle.std.proofs.lemmas.List.{take_all}
-use Rattle.file_rows.specs.Find.{application_named}
-use Rattle.file_rows.specs.declared.head.FileHead.{FileHead}
-use Rattle.file_rows.specs.declared.row.FileRow.{FileRow}
 use Rattle.uicc_tree.specs.Arena.{children_of, files_of}
-use Rattle.uicc_tree.specs.Files.{IsLive, file_of, path_of, rows_of}
+use Rattle.uicc_tree.specs.Files.{file_of}
 use Rattle.uicc_tree.proofs.FindLemmas.{find_at, find_more}
 use Rattle.uicc_tree.proofs.NameLemmas.{is_named, is_named_head, named_in_master}
 use Rattle.uicc_tree.proofs.TreeLemmas.{child_at, in_slots}
