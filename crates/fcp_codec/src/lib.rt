@@ -15,7 +15,7 @@ pub use fault::FcpFault;
 pub use fcp::{Fcp, FileForm, RuleRef};
 pub use laws::written_is_read;
 pub use read::read_fcp;
-pub use write::{own_id, put_fcp};
+pub use write::put_fcp;
 
 #[cfg(test)]
 mod tests;

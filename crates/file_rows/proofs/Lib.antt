@@ -3,3 +3,5 @@ pub mod FormLemmas
 pub mod EachLemmas
 pub mod FilesLemmas
 pub mod PinsLemmas
+pub mod FindLemmas
+pub mod PathLemmas

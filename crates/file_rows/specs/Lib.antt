@@ -2,5 +2,6 @@ pub mod Apart
 pub mod Change
 pub mod Content
 pub mod FileHead
+pub mod Find
 pub mod Path
 pub mod PinRow

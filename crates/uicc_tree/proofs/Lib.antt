@@ -11,3 +11,4 @@ pub mod SampleLemmas
 pub mod SlotLemmas
 pub mod TreeLemmas
 pub mod PlainLemmas
+pub mod GivesLemmas

@@ -3,10 +3,11 @@ ghost use Rattle.uicc_tree.specs.Arena.{files_of, children_of, children_at, chil
 ghost use Rattle.std.specs.List.{starts_with};
 ghost use Rattle.file_rows.specs.Content.{file_at};
 ghost use Rattle.file_rows.specs.FileHead.{is_application};
+ghost use Rattle.file_rows.specs.Find.{application_named};
 ghost use Rattle.file_rows.specs.Path.{IsIn, master};
-ghost use Rattle.uicc_tree.specs.Files.{IsLive, IsNodeOf, HasSfi, file_of, path_of, rows_of, application_named};
+ghost use Rattle.uicc_tree.specs.Files.{IsLive, IsNodeOf, HasSfi, file_of, path_of, rows_of};
 
-use file_rows::{FileHead, Kind};
+use file_rows::FileHead;
 use smallvec::SmallVec;
 use std::alloc::{AllocError, Global};
 
@@ -44,7 +45,7 @@ fn ends_with(path: &[u16], id: u16) -> bool
 fn is_named(head: &FileHead, front: &[u8]) -> bool
     ensures { result ≡ is_application head.now.kind && starts_with nat_eq head.now.name front.now }
 {
-    head.kind == Kind::Application && head.name.as_slice().starts_with(front)
+    head.kind.is_application() && head.name.as_slice().starts_with(front)
 }
 
 impl Arena {
@@ -145,18 +146,6 @@ impl Arena {
             }
         }
         None
-    }
-
-    // The node of the file in which this one stands.
-    pub fn parent(&self, node: u32) -> Option<u32>
-        requires arena { IsArena self.now }
-        requires live { IsLive (files_of self.now) node }
-        ensures found { IfSome result (λ above. IsLive (files_of self.now) above
-            × IsIn (path_of (files_of self.now) above) (path_of (files_of self.now) node)) }
-        ensures none { IfNone result (path_of (files_of self.now) node ≡ master) }
-    {
-        let (_, directory) = self.head(node).path.as_slice().split_last()?;
-        self.find(directory)
     }
 
     // The node of the file in which a file of this path stands.

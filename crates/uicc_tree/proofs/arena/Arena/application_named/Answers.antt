@@ -3,8 +3,9 @@ use Rattle.std.proofs.lemmas.List.Elements.{Contains-get_or}
 use Rattle.std.specs.List.{starts_with}
 use Rattle.file_rows.specs.FileHead.{is_application}
 use Rattle.uicc_tree.proofs.FindLemmas.{find_at, find_more}
+use Rattle.file_rows.specs.Find.{application_named}
 use Rattle.uicc_tree.specs.Arena.{files_of}
-use Rattle.uicc_tree.specs.Files.{IsLive, application_named, file_of}
+use Rattle.uicc_tree.specs.Files.{IsLive, file_of}
 use Rattle.uicc_tree.proofs.arena.Arena.application_named.Goals as goal
 
 pub returns-then-is_named-clause-found : goal.returns-then-is_named-clause-found

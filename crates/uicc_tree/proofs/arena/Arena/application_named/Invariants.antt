@@ -1,6 +1,7 @@
 use Rattle.std.proofs.Common.{◌≡◌, None, map, take}
+use Rattle.file_rows.specs.Find.{application_named}
 use Rattle.uicc_tree.specs.Arena.{files_of}
-use Rattle.uicc_tree.specs.Files.{application_named, file_of}
+use Rattle.uicc_tree.specs.Files.{file_of}
 use Rattle.uicc_tree.proofs.arena.Arena.application_named.Given as goal
 
 abbrev pub invariant-loop-node : goal.invariant-loop-node

@@ -1,8 +1,11 @@
-use Rattle.std.proofs.Common.{◌≡◌, IfSome, Some, subst}
-use Rattle.uicc_tree.specs.Files.{Files, IsLive, application_named, file_of, rows_of}
+use Rattle.std.proofs.Common.{subst}
+use Rattle.file_rows.specs.Find.{application_named}
+use Rattle.uicc_tree.specs.Arena.{files_of}
+use Rattle.uicc_tree.specs.Files.{Files, Gives, rows_of}
+use Rattle.uicc_tree.proofs.GivesLemmas.{gives_parts}
 use Rattle.uicc_tree.proofs.tree.Tree.by_name.Goals as goal
 
-pub returns-clause-found : goal.returns-clause-found
-returns-clause-found c =
-    subst (λ (t : Files). IfSome c.application_named.result (λ node. IsLive t node × (application_named c.args.front.now (rows_of t) ≡ Some (file_of t node))))
-    c.self.view_is c.application_named.ensures.found
+pub returns : goal.returns
+returns c =
+    subst (λ (t : Files). Gives t c.application_named.result (application_named c.args.prefix.now (rows_of t))) c.self.view_is
+    (gives_parts (files_of c.self.inside.arena) c.application_named.result _ c.application_named.ensures.found c.application_named.ensures.none)
