@@ -48,3 +48,14 @@ pub found_by_sfi : (rows : List FileRow) (directory : List ℕ) (row : FileRow) 
     → child_with_sfi rows directory row.head.sfi ≡ Some row
 found_by_sfi rows directory row files there inside given =
     rw (not_zero row.head.sfi given) (found_at directory row inside given rows files.sfis there.0 there.1 there.2)
+
+-- what each element has, what is found has
+pub found_has : {X : Type 0} (P : X → Type 0) (test : X → Bool) (xs : List X) (x : X) → AllByRecursion P xs → find test xs ≡ Some x → P x
+found_has P test [] x each e = absurd (cc)
+found_has {X} P test (y ∷ ys) x each e =
+    let step : (b : Bool) → cond b (Some y) (find test ys) ≡ Some x → P x
+    = λ b. elim b as (λ b. cond b (Some y) (find test ys) ≡ Some x → P x) [
+      | true ↦ λ f. let same : y ≡ x = cc in subst P same each.0
+      | false ↦ λ f. found_has P test ys x each.1 f
+    ]
+    in step (test y) e

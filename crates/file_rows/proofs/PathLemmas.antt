@@ -1,4 +1,4 @@
-use Rattle.std.proofs.Common.{◌≡◌, ◌≢◌, ◌↔◌, ℕ, ◌≤◌, ◌+◌, ◌-◌, Bool, true, false, ◌&&◌, ◌==◌, List, [], ◌∷◌, ◌++◌, length, take, drop, refl, sym, ◌∙◌, ap, subst, Some, arith}
+use Rattle.std.proofs.Common.{◌≡◌, ◌≢◌, ◌↔◌, ℕ, ◌≤◌, ◌+◌, ◌-◌, Bool, true, false, ◌&&◌, ◌==◌, List, [], ◌∷◌, ◌++◌, length, take, drop, refl, sym, ◌∙◌, ap, subst, append_assoc, Some, arith}
 use Rattle.std.proofs.lemmas.Bool.{true≢false}
 use Rattle.std.proofs.lemmas.Bool.Decides.{Decides-eqb}
 use Rattle.std.proofs.lemmas.List.{length-append, length-drop}
@@ -60,3 +60,16 @@ is_in-is directory file = (
       let long : length file ≡ length directory + 1 = ap length inside.1 ∙ length-append directory (inside.0 ∷ []) in
       rw (below, (Decides-eqb (length file) (length directory + 1)).1 long) refl,
 )
+
+-- a path below another begins with it
+pub below_is : (top path : List ℕ) → stands_below top path ≡ true → path ≡ top ++ drop (length top) path
+below_is top path below = (starts_is Decides-eqb path top (stands_below top path) refl).0 below
+
+pub is_below : (top path rest : List ℕ) → path ≡ top ++ rest → stands_below top path ≡ true
+is_below top path rest e = (starts_is Decides-eqb path top (stands_below top path) refl).1 rest e
+
+-- what stands in a file below the top one does too
+pub below_more : (top path more : List ℕ) → stands_below top path ≡ true → stands_below top (path ++ more) ≡ true
+below_more top path more below =
+    is_below top (path ++ more) (drop (length top) path ++ more)
+    (ap (λ (p : List ℕ). p ++ more) (below_is top path below) ∙ append_assoc top (drop (length top) path) more)

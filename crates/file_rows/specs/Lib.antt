@@ -1,5 +1,6 @@
 pub mod Apart
 pub mod Change
+pub mod Conditions
 pub mod Content
 pub mod FileHead
 pub mod Find

@@ -2,16 +2,19 @@ ghost use Rattle.std.specs.Prelude.{◌≡◌, ◌≢◌, ◌↔◌, List, ℕ, 
 ghost use Rattle.file_rows.specs.declared.change.Change.{Change};
 ghost use Rattle.file_rows.specs.declared.content.Content.{Content};
 ghost use Rattle.file_rows.specs.declared.head.FileHead.{FileHead};
+ghost use Rattle.file_rows.specs.declared.pin.PinRow.{PinRow};
 ghost use Rattle.file_rows.specs.declared.row.FileRow.{FileRow};
-ghost use Rattle.file_rows.specs.Change.{changed, new_file, Touches};
-ghost use Rattle.file_rows.specs.Content.{AreFiles, file_at};
+ghost use Rattle.file_rows.specs.Change.{Fits, Touches, TouchesPin, changed, new_file};
+ghost use Rattle.file_rows.specs.Conditions.{MeetsConditions};
+ghost use Rattle.file_rows.specs.Content.{AreFiles, IsValid, file_at};
 ghost use Rattle.file_rows.specs.Find.{child_with_sfi};
 ghost use Rattle.file_rows.specs.Path.{IsIn, is_in, master, own_id, parent_of, stands_below};
 
 use crate::{CURRENT_APPLICATION_ID, MASTER_FILE_ID};
 
-/// A change leaves each file alone that it doesn't name. A file that is added has a body of FF, and of a file that
-/// goes nothing is left, at its path or below it.
+/// A change leaves each file and each PIN alone that it doesn't name. A file that is added has a body of FF, and of a
+/// file that goes nothing is left: no file at its path or below it, and no PIN at home there. A PIN that is set is the
+/// one with its number.
 pub fn changes_are_local()
     ensures others { (content : Content) (change : Change) (path : List ℕ) → ¬ Touches change path
         → file_at path (changed content change).rows ≡ file_at path content.rows }
@@ -19,6 +22,19 @@ pub fn changes_are_local()
         → file_at head.path (changed content (Change.FileAdd head)).rows ≡ Some (new_file head) }
     ensures gone { (content : Content) (top path : List ℕ) → IsTrue (stands_below top path)
         → IsNone (file_at path (changed content (Change.FileGone top)).rows) }
+    ensures other_pins { (content : Content) (change : Change) (pin : PinRow) → ¬ TouchesPin change pin
+        → Contains (changed content change).pins pin ↔ Contains content.pins pin }
+    ensures set_pin { (content : Content) (set pin : PinRow) → Contains (changed content (Change.PinSet set)).pins pin
+        → pin.number ≡ set.number → pin ≡ set }
+    ensures gone_pins { (content : Content) (top : List ℕ) (pin : PinRow) → IsTrue (stands_below top pin.home)
+        → ¬ Contains (changed content (Change.FileGone top)).pins pin }
+{}
+
+/// Just when a change fits a valid content, by its kind. A write in a body, a record in its place and a life cycle
+/// status leave each valid content valid, and so does a file that goes.
+pub fn changes_fit_by_kind()
+    ensures { (content : Content) (change : Change) → IsValid content
+        → Fits content change ↔ MeetsConditions content change }
 {}
 
 /// The file identifiers of ETSI TS 102 221: `3F00` is the MF's, a file in a directory has the last one of its path, and
