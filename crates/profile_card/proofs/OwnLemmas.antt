@@ -3,9 +3,8 @@ use Rattle.std.specs.Prelude.{◌==◌, is_some}
 use Rattle.std.proofs.lemmas.Bool.{eqb-true, true≢false}
 use Rattle.apdu_codec.specs.Command.{Apdu}
 use Rattle.apdu_codec.specs.declared.status.TheConstants.Sw.{WRONG_INSTRUCTION}
-use Rattle.uicc_channels.specs.CommandRow.{refused}
-use Rattle.uicc_channels.specs.Session.{channel_at}
-use Rattle.uicc_select.specs.Status.{chan_of}
+use Rattle.uicc_channels.specs.CommandOutcome.{refused}
+use Rattle.uicc_channels.specs.Session.{channel_at, open_channel}
 use Rattle.profile_card.specs.Card.{Card}
 use Rattle.profile_card.specs.Commands.{decision}
 use Rattle.profile_card.specs.Own.{is_common}
@@ -25,11 +24,11 @@ unknown_at card c ins e select status read is_open = rw (e, select, status, read
 -- what the common part answers in the card's place is unknown to the card
 pub unknown_to_the_card : (card : Card) (c : Apdu) → is_common card.session c ≡ true → decision card c ≡ refused card.session WRONG_INSTRUCTION
 unknown_to_the_card card c common =
-    let met = both_met (is_some (channel_at card.session c.channel)) ((c.ins == 0x7A) || (((c.ins == 0xE2) || (c.ins == 0xC0)) && (chan_of card.session c).isdr)) common in
-    elim (either_met (c.ins == 0x7A) (((c.ins == 0xE2) || (c.ins == 0xC0)) && (chan_of card.session c).isdr) met.1) [
+    let met = both_met (is_some (channel_at card.session c.channel)) ((c.ins == 0x7A) || (((c.ins == 0xE2) || (c.ins == 0xC0)) && (open_channel card.session c.channel).isdr)) common in
+    elim (either_met (c.ins == 0x7A) (((c.ins == 0xE2) || (c.ins == 0xC0)) && (open_channel card.session c.channel).isdr) met.1) [
       | inl lsi ↦ unknown_at card c 0x7A (eqb-true c.ins 0x7A lsi) refl refl refl met.0
       | inr isdr ↦
-          elim (either_met (c.ins == 0xE2) (c.ins == 0xC0) (both_met ((c.ins == 0xE2) || (c.ins == 0xC0)) (chan_of card.session c).isdr isdr).0) [
+          elim (either_met (c.ins == 0xE2) (c.ins == 0xC0) (both_met ((c.ins == 0xE2) || (c.ins == 0xC0)) (open_channel card.session c.channel).isdr isdr).0) [
             | inl store ↦ unknown_at card c 0xE2 (eqb-true c.ins 0xE2 store) refl refl refl met.0
             | inr response ↦ unknown_at card c 0xC0 (eqb-true c.ins 0xC0 response) refl refl refl met.0
           ]

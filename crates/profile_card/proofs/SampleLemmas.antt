@@ -1,21 +1,14 @@
 use Rattle.std.proofs.Common.{◌≡◌, ◌≢◌, ℕ, List, [], ◌∷◌, length, get_or, false, inl, inr, refl, ap, lit≤, arith, Some, None}
 use Rattle.plain_lists.specs.EachTwo.{EachTwo}
 use Rattle.std.specs.List.{AllByRecursion}
-use Rattle.apdu_codec.specs.declared.answers.Answer.{Answer}
-use Rattle.file_rows.specs.Change.{Fits}
 use Rattle.file_rows.specs.Content.{AreFiles, ArePins, IsValid, heads_of, use_of}
 use Rattle.file_rows.specs.FileHead.{IsFile, ShareName, ShareSfi}
-use Rattle.file_rows.specs.declared.change.Change.TheVariants.{PinSet}
 use Rattle.file_rows.specs.declared.head.Kind.TheVariants.{Master, Linear, Transparent}
-use Rattle.file_rows.specs.declared.pin.PinRow.{PinRow}
-use Rattle.uicc_channels.proofs.SessionLemmas.{Suits-fresh_session}
-use Rattle.uicc_channels.specs.Session.{fresh_session}
-use Rattle.profile_card.specs.CardState.{MayFollow}
-use Rattle.profile_card.specs.Sample.{file, pin, sample, sample_card}
+use Rattle.profile_card.specs.Sample.{sample, sample_file}
 
 -- what the files take of the quota
 pub use_of-sample : use_of sample.rows ≡ 781
-unfolding file
+unfolding sample_file
 use_of-sample = refl
 
 no_master_transparent : Transparent ≡ Master → ⊥
@@ -36,7 +29,7 @@ apart : (a b : ℕ) → a ≢ b → a ∷ [] ≢ b ∷ []
 apart a b other e = other (ap (λ (path : List ℕ). get_or path 0 0) e)
 
 each_file : AllByRecursion IsFile (heads_of sample.rows)
-unfolding file
+unfolding sample_file
 each_file = (
   record { depth = lit≤ tt; form = record { path = refl; name = refl; bare = record { size = refl; record_len = refl; sfi = refl } } },
   (
@@ -58,7 +51,7 @@ each_file = (
 )
 
 sample_paths : EachTwo (λ one other. one.path ≢ other.path) (heads_of sample.rows)
-unfolding file
+unfolding sample_file
 sample_paths = (
   (not_master 0x2F05, (not_master 0x2FE2, (not_master 0x2F00, (not_master 0x2F06, (not_master 0x2F08, tt))))),
   (
@@ -77,7 +70,7 @@ sample_paths = (
 )
 
 sample_sfis : EachTwo (λ one other. ¬ ShareSfi one other) (heads_of sample.rows)
-unfolding file
+unfolding sample_file
 sample_sfis = (
   ((λ s. s.given refl), ((λ s. s.given refl), ((λ s. s.given refl), ((λ s. s.given refl), ((λ s. s.given refl), tt))))),
   (
@@ -93,7 +86,7 @@ sample_sfis = (
 )
 
 sample_names : EachTwo (λ one other. ¬ ShareName one other) (heads_of sample.rows)
-unfolding file
+unfolding sample_file
 sample_names = (
   ((λ s. s.given refl), ((λ s. s.given refl), ((λ s. s.given refl), ((λ s. s.given refl), ((λ s. s.given refl), tt))))),
   (
@@ -106,7 +99,7 @@ sample_names = (
 )
 
 sample_files : AreFiles sample.rows
-unfolding file
+unfolding sample_file
 sample_files = record {
   tree = (
     refl,
@@ -136,7 +129,7 @@ sample_files = record {
 }
 
 sample_pins : ArePins (heads_of sample.rows) sample.pins
-unfolding file
+unfolding sample_file
 sample_pins = record {
   each = (
     record { smallest = lit≤ tt; largest = lit≤ tt; key = inl (inl (lit≤ tt, lit≤ tt), refl); tries = record { some = lit≤ tt; few = lit≤ tt; left = lit≤ tt }; puk = tt },
@@ -154,18 +147,3 @@ IsValid-sample = record {
   few_pins = lit≤ tt;
   system = inr (record { files = sample_files; pins = sample_pins });
 }
-
--- its second PIN, of key 0A
-abbrev pub second_pin : PinRow
-second_pin = pin 2 0x0A (0x38 ∷ 0x38 ∷ 0x38 ∷ 0x38 ∷ 0x38 ∷ 0x38 ∷ 0x38 ∷ 0x38 ∷ [])
-
--- it may be set to what it is
-pub Fits-second_pin : Fits sample (PinSet second_pin)
-Fits-second_pin = record {
-  place = (1, _, lit≤ tt, refl, record { number = refl; home = refl; key = refl });
-  after = IsValid-sample;
-}
-
-pub MayFollow-second_pin : (answer : Answer) → MayFollow sample_card (record { answer = answer; session = fresh_session false None; change = Some (PinSet second_pin) })
-MayFollow-second_pin answer =
-    record { change = Fits-second_pin; session = Suits-fresh_session sample false None IsValid-sample }

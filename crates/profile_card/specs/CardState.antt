@@ -1,15 +1,13 @@
 use Rattle.std.specs.Prelude.{List, [], Some, Option, IfSome, ⊤}
-use Rattle.file_rows.specs.Change.{Fits, changed}
+use Rattle.file_rows.specs.Change.{changed}
 use Rattle.file_rows.specs.declared.change.Change.{Change}
 use Rattle.file_rows.specs.declared.change.Change.TheVariants.{FileAdd, FileSize}
 use Rattle.file_rows.specs.declared.content.Content.{Content}
 use Rattle.file_rows.specs.declared.pin.PinRow.{PinRow}
-use Rattle.uicc_channels.specs.Session.{Suits}
-use Rattle.uicc_channels.specs.declared.decided.Decided.{Decided}
 use Rattle.uicc_channels.specs.declared.session.Session.{Session}
 use Rattle.uicc_tree.specs.Change.{HasRoom}
 use Rattle.uicc_tree.specs.Files.{Files, rows_of}
-use Rattle.profile_card.specs.Card.{Card, content_after}
+use Rattle.profile_card.specs.Card.{Card}
 use Rattle.profile_card.specs.declared.place.Place.{Place}
 
 -- what contracts see of a card at a port: its files, with the memory that is reserved among them, its PINs, its session
@@ -27,11 +25,6 @@ content_of state = record { rows = rows_of state.tree; pins = state.pins }
 abbrev pub card_of : CardState → Card
 card_of state =
     record { content = content_of state; session = state.session; mode = state.place.mode; port = Some state.place.port }
-
--- a card may carry out what a command comes to: the change fits it, and the session suits what it then holds
-pub record MayFollow (card : Card) (decided : Decided) : Type 0 where
-  pub change : IfSome decided.change (Fits card.content)
-  pub session : Suits decided.session (content_after card.content decided.change).rows
 
 -- the memory that a change needs is reserved
 abbrev pub HasRoomFor : CardState → Option Change → Type 0

@@ -1,14 +1,15 @@
-use Rattle.std.specs.Prelude.{ℕ, ◌≡◌, ◌⊎◌, true, false, not, ◌==◌, if◌then◌else◌, None, is_some}
+use Rattle.std.specs.Prelude.{ℕ, ◌≡◌, ◌⊎◌, false, not, ◌==◌, if◌then◌else◌}
+use Rattle.apdu_codec.specs.Answer.{status_alone}
 use Rattle.apdu_codec.specs.Command.{Apdu}
 use Rattle.apdu_codec.specs.declared.status.TheConstants.Sw.{OK}
-use Rattle.uicc_channels.specs.Answer.{status}
+use Rattle.uicc_channels.specs.CommandOutcome.{CommandOutcome, answering}
 use Rattle.uicc_channels.specs.CommandRow.{CommandRow, decided}
-use Rattle.uicc_channels.specs.Session.{channel_at}
+use Rattle.uicc_channels.specs.Needs.{needs_of}
+use Rattle.uicc_channels.specs.Session.{open_channel}
 use Rattle.uicc_channels.specs.declared.chan.Chan.{Chan}
-use Rattle.uicc_channels.specs.declared.decided.Decided.{Decided}
 use Rattle.uicc_channels.specs.declared.session.Session.{Session}
 use Rattle.uicc_select.specs.Select.{select_row}
-use Rattle.uicc_select.specs.Status.{chan_of, status_row}
+use Rattle.uicc_select.specs.Status.{status_row}
 use Rattle.profile_card.specs.Card.{Card, isdr_here}
 use Rattle.profile_card.specs.ReadBinary.{read_binary_row}
 
@@ -16,32 +17,22 @@ use Rattle.profile_card.specs.ReadBinary.{read_binary_row}
 abbrev pub unknown_row : Session → Apdu → CommandRow
 unknown_row session c =
     record {
-      needs = record {
-        channel = is_some (channel_at session c.channel);
-        instruction = false;
-        class = true;
-        parameters = true;
-        lengths = true;
-        file = None;
-        kind = true;
-        life = None;
-        access = true;
-        own = None;
-      };
-      done = record { answer = status OK; session = session; change = None };
+      needs = record (needs_of session c) { instruction = false };
+      done = answering session (status_alone OK);
     }
 
 -- an instruction that a channel knows unless the ISD-R is selected on it
 abbrev pub not_at_isdr : Session → Apdu → CommandRow → CommandRow
-not_at_isdr session c row = record row { needs = record row.needs { instruction = not (chan_of session c).isdr } }
+not_at_isdr session c row =
+    record row { needs = record row.needs { instruction = not (open_channel session c.channel).isdr } }
 
 -- where the ISD-R is selected, SELECT alone is known
 abbrev pub IsKnownAt : Chan → ℕ → Type 0
 IsKnownAt chan ins = (chan.isdr ≡ false) ⊎ (ins ≡ 0xA4)
 
 -- the row of a command's instruction
-abbrev pub row_of : Card → Apdu → CommandRow
-row_of card c =
+abbrev pub command_row : Card → Apdu → CommandRow
+command_row card c =
     let session = card.session in
     let rows = card.content.rows in
     let pins = card.content.pins in
@@ -51,5 +42,5 @@ row_of card c =
     else unknown_row session c
 
 -- what a command comes to at a card
-abbrev pub decision : Card → Apdu → Decided
-decision card c = decided card.session (row_of card c)
+abbrev pub decision : Card → Apdu → CommandOutcome
+decision card c = decided card.session (command_row card c)

@@ -5,3 +5,4 @@ pub mod Own
 pub mod ReadBinary
 pub mod Sample
 pub mod Step
+pub mod Tables

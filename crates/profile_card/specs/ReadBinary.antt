@@ -1,20 +1,19 @@
 use Rattle.std.specs.Prelude.{ℕ, ◌+◌, ◌-◌, ◌*◌, Bool, true, false, ◌==◌, ◌&&◌, ◌||◌, nat_lt, nat_le, if◌then◌else◌, List, [], length, take, drop, Option, Some, None, option_and_then, option_map, unwrap_or, is_some}
-use Rattle.apdu_codec.specs.Class.{is_standard}
 use Rattle.apdu_codec.specs.Command.{Apdu}
+use Rattle.apdu_codec.specs.Sw.{wrong_le}
 use Rattle.apdu_codec.specs.declared.status.Sw.{Sw}
-use Rattle.apdu_codec.specs.declared.status.TheConstants.Sw.{CONDITIONS_NOT_SATISFIED, DATA_BLOCKED, NO_CURRENT_EF, OK, WRONG_OFFSET}
+use Rattle.apdu_codec.specs.declared.status.TheConstants.Sw.{NO_CURRENT_EF, OK, WRONG_OFFSET}
 use Rattle.file_rows.specs.declared.head.Kind.{Kind}
 use Rattle.file_rows.specs.declared.head.Kind.TheVariants.{Master, Directory, Application, Transparent, Linear, Cyclic}
-use Rattle.file_rows.specs.declared.head.Life.{Life}
-use Rattle.file_rows.specs.declared.head.Life.TheVariants.{Active, Deactivated, Terminated}
 use Rattle.file_rows.specs.declared.head.Rule.{Rule}
 use Rattle.file_rows.specs.declared.row.FileRow.{FileRow}
-use Rattle.uicc_channels.specs.Answer.{wrong_le}
 use Rattle.uicc_channels.specs.Chan.{current_file}
+use Rattle.uicc_channels.specs.CommandOutcome.{answering}
 use Rattle.uicc_channels.specs.CommandRow.{CommandRow}
-use Rattle.uicc_channels.specs.Session.{channel_at}
+use Rattle.uicc_channels.specs.Life.{life_refusal}
+use Rattle.uicc_channels.specs.Needs.{needs_of, refused_unless}
+use Rattle.uicc_channels.specs.Session.{open_channel}
 use Rattle.uicc_channels.specs.declared.session.Session.{Session}
-use Rattle.uicc_select.specs.Status.{chan_of}
 
 abbrev pub is_transparent : Kind → Bool
 is_transparent Master = false
@@ -23,12 +22,6 @@ is_transparent Application = false
 is_transparent Transparent = true
 is_transparent Linear = false
 is_transparent Cyclic = false
-
--- why a file's body can't be used, by its life cycle status
-abbrev pub life_refusal : Life → Option Sw
-life_refusal Active = None
-life_refusal Deactivated = Some DATA_BLOCKED
-life_refusal Terminated = Some CONDITIONS_NOT_SATISFIED
 
 -- whether a file may be read: the access rules of the sample card's rows 1 and 2 always let read, and no key can be
 -- verified yet, so no other row does
@@ -47,22 +40,19 @@ read_refusal body offset le =
 -- ETSI TS 102 221, READ BINARY from an offset
 abbrev pub read_binary_row : List FileRow → Session → Apdu → CommandRow
 read_binary_row rows session c =
-    let file = current_file rows (chan_of session c) in
+    let file = current_file rows (open_channel session c.channel) in
     let body = unwrap_or (option_map (λ row. row.body) file) [] in
     let offset = c.p1 * 256 + c.p2 in
     let le = unwrap_or c.le 0 in
     record {
-      needs = record {
-        channel = is_some (channel_at session c.channel);
-        instruction = true;
-        class = is_standard c.class;
+      needs = record (needs_of session c) {
         parameters = nat_lt c.p1 128;
         lengths = (length c.body == 0) && is_some c.le;
-        file = if is_some file then None else Some NO_CURRENT_EF;
+        file = refused_unless (is_some file) NO_CURRENT_EF;
         kind = unwrap_or (option_map (λ row. is_transparent row.head.kind) file) false;
         life = option_and_then (λ row. life_refusal row.head.life) file;
         access = unwrap_or (option_map (λ row. may_read row.head.rule) file) false;
         own = read_refusal body offset le;
       };
-      done = record { answer = record { body = take le (drop offset body); sw = OK }; session = session; change = None };
+      done = answering session (record { body = take le (drop offset body); sw = OK });
     }

@@ -12,8 +12,8 @@ use Rattle.uicc_channels.specs.Session.{fresh_session}
 use Rattle.profile_card.specs.Card.{Card}
 
 -- an active file with a rule of the EF ARR 2F06
-abbrev pub head : List ℕ → Kind → ℕ → ℕ → ℕ → ℕ → FileHead
-head path kind sfi rule record_len size =
+abbrev pub sample_head : List ℕ → Kind → ℕ → ℕ → ℕ → ℕ → FileHead
+sample_head path kind sfi rule record_len size =
     record {
       path = path;
       kind = kind;
@@ -26,8 +26,8 @@ head path kind sfi rule record_len size =
     }
 
 -- a file whose body begins so and goes on with FF
-unfoldable pub file : FileHead → List ℕ → FileRow
-file head front = record { head = head; body = front ++ replicate (head.size - length front) 0xFF }
+unfoldable pub sample_file : FileHead → List ℕ → FileRow
+sample_file head prefix = record { head = head; body = prefix ++ replicate (head.size - length prefix) 0xFF }
 
 -- the ICCID
 abbrev pub iccid : List ℕ
@@ -47,8 +47,8 @@ abbrev pub rules : List ℕ
 rules = read_always ++ replicate 26 0xFF ++ use_always ++ replicate 37 0xFF ++ use_with_pin
 
 -- an enabled PIN at home in the MF, with three tries of three and no PUK
-abbrev pub pin : ℕ → ℕ → List ℕ → PinRow
-pin number key value =
+abbrev pub sample_pin : ℕ → ℕ → List ℕ → PinRow
+sample_pin number key value =
     record { number = number; home = master; key = key; value = value; max = 3; left = 3; enabled = true; puk = None }
 
 -- the content of the sample card
@@ -56,16 +56,16 @@ abbrev pub sample : Content
 sample =
     record {
       rows =
-          file (head master Master 0 1 0 0) []
-          ∷ file (head (0x2F05 ∷ []) Transparent 0x05 2 0 2) []
-          ∷ file (head (0x2FE2 ∷ []) Transparent 0x02 1 0 10) iccid
-          ∷ file (head (0x2F00 ∷ []) Linear 0x1E 1 38 152) []
-          ∷ file (head (0x2F06 ∷ []) Linear 0x06 1 42 420) rules
-          ∷ file (head (0x2F08 ∷ []) Transparent 0x08 3 0 5) []
+          sample_file (sample_head master Master 0 1 0 0) []
+          ∷ sample_file (sample_head (0x2F05 ∷ []) Transparent 0x05 2 0 2) []
+          ∷ sample_file (sample_head (0x2FE2 ∷ []) Transparent 0x02 1 0 10) iccid
+          ∷ sample_file (sample_head (0x2F00 ∷ []) Linear 0x1E 1 38 152) []
+          ∷ sample_file (sample_head (0x2F06 ∷ []) Linear 0x06 1 42 420) rules
+          ∷ sample_file (sample_head (0x2F08 ∷ []) Transparent 0x08 3 0 5) []
           ∷ [];
       pins =
-          pin 1 0x01 (0x31 ∷ 0x32 ∷ 0x33 ∷ 0x34 ∷ 0xFF ∷ 0xFF ∷ 0xFF ∷ 0xFF ∷ [])
-          ∷ pin 2 0x0A (0x38 ∷ 0x38 ∷ 0x38 ∷ 0x38 ∷ 0x38 ∷ 0x38 ∷ 0x38 ∷ 0x38 ∷ [])
+          sample_pin 1 0x01 (0x31 ∷ 0x32 ∷ 0x33 ∷ 0x34 ∷ 0xFF ∷ 0xFF ∷ 0xFF ∷ 0xFF ∷ [])
+          ∷ sample_pin 2 0x0A (0x38 ∷ 0x38 ∷ 0x38 ∷ 0x38 ∷ 0x38 ∷ 0x38 ∷ 0x38 ∷ 0x38 ∷ [])
           ∷ [];
     }
 

@@ -2,10 +2,9 @@ use Rattle.std.specs.Prelude.{ℕ, ◌≡◌, ◌⊎◌, Bool, false, List, [], 
 use Rattle.apdu_codec.specs.Command.{Spells, Apdu, refusal}
 use Rattle.apdu_codec.specs.declared.answers.Answer.{Answer}
 use Rattle.file_rows.specs.declared.change.Change.{Change}
-use Rattle.uicc_channels.specs.CommandRow.{refused}
+use Rattle.uicc_channels.specs.CommandOutcome.{CommandOutcome, refused}
 use Rattle.uicc_channels.specs.Session.{fresh_session}
-use Rattle.uicc_channels.specs.declared.decided.Decided.{Decided}
-use Rattle.profile_card.specs.Card.{Card, settled}
+use Rattle.profile_card.specs.Card.{Card, card_after}
 use Rattle.profile_card.specs.Commands.{decision}
 
 -- what comes to a card: a command APDU, a reset of its port, a power cycle, and that it comes to stand on a port or
@@ -27,15 +26,16 @@ pub record Outcome : Type 0 where
 abbrev pub silent : Card → Outcome
 silent card = record { answer = None; card = card; change = None }
 
-abbrev pub answering : Card → Decided → Outcome
-answering card decided =
-    record { answer = Some decided.answer; card = settled card decided; change = decided.change }
+-- what a command comes to is carried out
+abbrev pub carried_out : Card → CommandOutcome → Outcome
+carried_out card outcome =
+    record { answer = Some outcome.answer; card = card_after card outcome; change = outcome.change }
 
 -- what a card answers to these bytes: to a command by its instruction, and to anything else with its refusal
-abbrev pub Answers : Card → List ℕ → Outcome → Type 0
-Answers card bytes outcome =
-    ((c : Apdu) × Spells bytes c × (outcome ≡ answering card (decision card c)))
-    ⊎ (((c : Apdu) → ¬ Spells bytes c) × (outcome ≡ answering card (refused card.session (refusal bytes))))
+abbrev pub Responds : Card → List ℕ → Outcome → Type 0
+Responds card bytes outcome =
+    ((c : Apdu) × Spells bytes c × (outcome ≡ carried_out card (decision card c)))
+    ⊎ (((c : Apdu) → ¬ Spells bytes c) × (outcome ≡ carried_out card (refused card.session (refusal bytes))))
 
 -- the card after a reset of its port
 abbrev pub restarted : Card → Card
@@ -43,7 +43,7 @@ restarted card = record card { session = fresh_session false None }
 
 -- one event at a card on this port, or on none; without a port only a new one counts
 abbrev pub StepsAt : Option ℕ → Card → Event → Outcome → Type 0
-StepsAt (Some port) card (Command bytes) outcome = Answers card bytes outcome
+StepsAt (Some port) card (Command bytes) outcome = Responds card bytes outcome
 StepsAt (Some port) card Reset outcome = outcome ≡ silent (restarted card)
 StepsAt (Some port) card Power outcome = outcome ≡ silent (restarted card)
 StepsAt None card (Command bytes) outcome = outcome ≡ silent card
@@ -58,8 +58,8 @@ abbrev pub Steps : Card → Event → Outcome → Type 0
 Steps card event outcome = StepsAt card.port card event outcome
 
 -- the card at a port answers these bytes so, and comes to this
-abbrev pub Gives : Card → List ℕ → Answer → Card → Type 0
-Gives card bytes answer after =
+abbrev pub AnswersWith : Card → List ℕ → Answer → Card → Type 0
+AnswersWith card bytes answer after =
     (change : Option Change) × Steps card (Command bytes) (record { answer = Some answer; card = after; change = change })
 
 -- to these command APDUs, one after another, the card gives these answers, and comes to this
@@ -68,7 +68,7 @@ RunsTo card [] [] after = after ≡ card
 RunsTo card [] (answer ∷ answers) after = ⊥
 RunsTo card (bytes ∷ rest) [] after = ⊥
 RunsTo card (bytes ∷ rest) (answer ∷ answers) after =
-    (next : Card) × Gives card bytes answer next × RunsTo next rest answers after
+    (next : Card) × AnswersWith card bytes answer next × RunsTo next rest answers after
 
 -- what the card answers to these command APDUs, one after another
 abbrev pub Runs : Card → List (List ℕ) → List Answer → Type 0

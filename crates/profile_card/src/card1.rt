@@ -1,22 +1,25 @@
-ghost use Rattle.std.specs.Prelude.{◌≡◌, ◌<◌, ◌==◌, [], None, Some, IfOk, IfSome, OnOk, OnErr};
-ghost use Rattle.apdu_codec.specs.Command.{IsCommand, apdu_of};
+ghost use Rattle.std.specs.Prelude.{◌≡◌, ◌<◌, ◌==◌, false, [], List, ℕ, None, Some, IfOk, IfSome, OnOk, OnErr};
+ghost use Rattle.apdu_codec.specs.Command.{Apdu, IsCommand, Spells, apdu_of};
 ghost use Rattle.file_rows.specs.Change.{Fits};
 ghost use Rattle.file_rows.specs.Content.{IsValid};
-ghost use Rattle.uicc_channels.specs.Session.{IsOpen, Suits, fresh_session};
-ghost use Rattle.uicc_channels.specs.declared.session.TheConstants.{CHANNELS};
+ghost use Rattle.uicc_channels.specs.CommandOutcome.{outcome_of};
 ghost use Rattle.uicc_channels.specs.CommandRow.{decided};
+ghost use Rattle.uicc_channels.specs.Session.{IsOpen, Suits, fresh_session, open_channel};
+ghost use Rattle.uicc_channels.specs.declared.session.TheConstants.{CHANNELS};
 ghost use Rattle.uicc_select.specs.Select.{select_row};
-ghost use Rattle.uicc_select.specs.Status.{chan_of, status_row};
+ghost use Rattle.uicc_select.specs.Status.{status_row};
 ghost use Rattle.uicc_tree.specs.Change.{HasRoom};
 ghost use Rattle.uicc_tree.specs.Files.{rows_of};
-ghost use Rattle.profile_card.specs.Card.{isdr_here, settled};
+ghost use Rattle.profile_card.specs.Card.{MayFollow, isdr_here, outcome_at, settled};
+ghost use Rattle.profile_card.specs.CardState.{HasRoomFor, TakesRoom, card_of, content_of};
 ghost use Rattle.profile_card.specs.Commands.{IsKnownAt, decision};
-ghost use Rattle.profile_card.specs.CardState.{HasRoomFor, MayFollow, TakesRoom, card_of, content_of};
+ghost use Rattle.profile_card.specs.Step.{Steps, silent};
+ghost use Rattle.profile_card.specs.Step.Event.{Bound, Command as CommandBytes, Power, Reset};
 
 use crate::pins::change_pins;
 use crate::place::Place;
 use crate::read_binary::read_binary;
-use apdu_codec::{Command, Sw};
+use apdu_codec::{Command, Sw, ins};
 use case_table::{case_arms, ins_rows};
 use file_rows::{Change, Content, NoMemory, PinRow, copy_pins};
 use std::alloc::Global;
@@ -31,13 +34,13 @@ macro_rules! instruction {
         $card.select($command)
     };
     (0xF2, $class:tt, ($card:expr, $command:expr)) => {
-        $card.tell($command)
+        $card.status($command)
     };
     (0xB0, $class:tt, ($card:expr, $command:expr)) => {
         read_binary(&$card.tree, &$card.session, $command)
     };
     ($ins:tt, $class:tt, ($card:expr, $command:expr)) => {
-        refuse(&$card.session, Sw::WRONG_INSTRUCTION)
+        refuse(Sw::WRONG_INSTRUCTION)
     };
 }
 
@@ -45,7 +48,7 @@ macro_rules! instruction {
 fn is_for_isdr(ins: u8) -> bool
     ensures { result ≡ (ins == 0xA4) }
 {
-    ins == 0xA4
+    ins == ins::SELECT
 }
 
 /// The card of one profile at a port, or of none: a blank card. It keeps that what its session names is among its
@@ -106,37 +109,38 @@ impl Card1 {
         }
     }
 
-    /// What a command comes to: its answer, the session after it, and what it changes in the content. The card stays as
-    /// it is; `settle` carries it out.
+    /// What a command comes to: its answer, what it does to the session, and what it changes in the content. The card
+    /// stays as it is; `settle` carries it out.
     ///
     /// SELECT, STATUS and READ BINARY from an offset (ETSI TS 102 221); any other instruction is answered `6D00`, and
-    /// so is each but SELECT where the ISD-R is selected on the channel. It takes no memory, and copies the session once.
+    /// so is each but SELECT where the ISD-R is selected on the channel. It takes no memory, and copies no session.
     pub fn decide(&self, command: &Command) -> Decided
         requires { IsCommand command.now }
-        ensures decision { result ≡ decision (card_of self.now) (apdu_of command.now) }
-        ensures may_follow { MayFollow (card_of self.now) result }
+        ensures decision { outcome_at (card_of self.now) result ≡ decision (card_of self.now) (apdu_of command.now) }
+        ensures may_follow { MayFollow (card_of self.now) (outcome_at (card_of self.now) result) }
     {
         let Some(chan) = self.session.channel_at(command.channel) else {
-            return refuse(&self.session, Sw::CHANNEL_NOT_SUPPORTED);
+            return refuse(Sw::CHANNEL_NOT_SUPPORTED);
         };
         if chan.isdr && !is_for_isdr(command.ins) {
-            return refuse(&self.session, Sw::WRONG_INSTRUCTION);
+            return refuse(Sw::WRONG_INSTRUCTION);
         }
         self.answer(command)
     }
 
     fn select(&self, command: &Command) -> Decided
         requires { IsOpen self.now.session command.now.channel }
-        ensures { result ≡ decided self.now.session
+        ensures { outcome_of self.now.session result ≡ decided self.now.session
             (select_row (rows_of self.now.tree) self.now.pins self.now.session (isdr_here (card_of self.now)) (apdu_of command.now)) }
     {
         let isdr_here = self.place.mode.has_isdr(self.place.port);
         select(&self.tree, &self.pins, &self.session, isdr_here, command)
     }
 
-    fn tell(&self, command: &Command) -> Decided
+    fn status(&self, command: &Command) -> Decided
         requires { IsOpen self.now.session command.now.channel }
-        ensures { result ≡ decided self.now.session (status_row (rows_of self.now.tree) self.now.pins self.now.session (apdu_of command.now)) }
+        ensures { outcome_of self.now.session result ≡ decided self.now.session
+            (status_row (rows_of self.now.tree) self.now.pins self.now.session (apdu_of command.now)) }
     {
         status(&self.tree, &self.pins, &self.session, command)
     }
@@ -145,10 +149,10 @@ impl Card1 {
     fn answer(&self, command: &Command) -> Decided
         requires spelled { IsCommand command.now }
         requires open { IsOpen self.now.session command.now.channel }
-        requires known { IsKnownAt (chan_of self.now.session (apdu_of command.now)) command.now.ins }
-        ensures { result ≡ decision (card_of self.now) (apdu_of command.now) }
+        requires known { IsKnownAt (open_channel self.now.session command.now.channel) command.now.ins }
+        ensures { outcome_of self.now.session result ≡ decision (card_of self.now) (apdu_of command.now) }
     {
-        ins_rows!(case_arms: command.ins, instruction(self, command), refuse(&self.session, Sw::WRONG_INSTRUCTION))
+        ins_rows!(case_arms: command.ins, instruction(self, command), refuse(Sw::WRONG_INSTRUCTION))
     }
 
     /// Takes the memory that `settle` needs for a change. Without it nothing changes. Only FileAdd and FileSize need any.
@@ -164,25 +168,43 @@ impl Card1 {
         }
     }
 
-    /// Carries out what `decide` answered: the change of the content, for which memory was reserved, and the session.
-    /// It takes no memory.
+    /// Carries out what `decide` answered: the change of the content, for which memory was reserved, and what happens to
+    /// the session, in place. What `decide` answers to a command and `settle` carries out is one step of the card. It
+    /// takes no memory, and copies at most the channels that the command changes.
     pub fn settle(&mut self, decided: &Decided)
-        requires may_follow { MayFollow (card_of self.old) decided.now }
+        requires may_follow { MayFollow (card_of self.old) (outcome_at (card_of self.old) decided.now) }
         requires room { HasRoomFor self.old decided.now.change }
-        ensures { card_of self.new ≡ settled (card_of self.old) decided.now }
+        ensures card { card_of self.new ≡ settled (card_of self.old) decided.now }
+        ensures place { self.new.place ≡ self.old.place }
+        ensures step { (bytes : List ℕ) (c : Apdu) → Spells bytes c
+            → outcome_at (card_of self.old) decided.now ≡ decision (card_of self.old) c
+            → Steps (card_of self.old) (CommandBytes bytes)
+            (record { answer = Some decided.now.answer; card = card_of self.new; change = decided.now.change }) }
+    {
+        self.carry_out(decided);
+    }
+
+    fn carry_out(&mut self, decided: &Decided)
+        requires may_follow { MayFollow (card_of self.old) (outcome_at (card_of self.old) decided.now) }
+        requires room { HasRoomFor self.old decided.now.change }
+        ensures card { card_of self.new ≡ settled (card_of self.old) decided.now }
+        ensures place { self.new.place ≡ self.old.place }
     {
         if let Some(change) = &decided.change {
             self.tree.apply(change);
             change_pins(&mut self.pins, change);
         }
-        self.session = decided.session.copy();
+        self.session.apply(&decided.session);
     }
 
-    /// Gives the card a fresh session, as `fresh` makes it, for a reset of its port, a power cycle or a new binding. It
-    /// takes no memory.
+    /// Gives the card a fresh session, as `fresh` makes it: for a reset of its port and for a power cycle, with no REFRESH
+    /// and no kept channel, and for a new binding on its port. It takes no memory.
     pub fn reset(&mut self, refresh: bool, kept: Option<u8>)
         requires { IfSome kept (λ number. number < CHANNELS) }
-        ensures { self.new ≡ record self.old { session = fresh_session refresh kept } }
+        ensures session { self.new ≡ record self.old { session = fresh_session refresh kept } }
+        ensures reset { refresh ≡ false → kept ≡ None → Steps (card_of self.old) Reset (silent (card_of self.new)) }
+        ensures power { refresh ≡ false → kept ≡ None → Steps (card_of self.old) Power (silent (card_of self.new)) }
+        ensures bound { Steps (card_of self.old) (Bound self.old.place.port refresh kept) (silent (card_of self.new)) }
     {
         self.session = fresh(refresh, kept);
     }

@@ -1,13 +1,17 @@
-ghost use Rattle.std.specs.Prelude.{◌≡◌, ℕ, true, List, Some};
+ghost use Rattle.std.specs.Prelude.{◌≡◌, ℕ, ◌<◌, ◌^◌, true, List, [], ◌∷◌, Some};
 ghost use Rattle.apdu_codec.specs.Command.{Apdu};
+ghost use Rattle.apdu_codec.specs.Sw.{bytes_waiting, tries_left, wrong_le};
 ghost use Rattle.apdu_codec.specs.declared.answers.Answer.{Answer};
-ghost use Rattle.uicc_channels.specs.CommandRow.{refused};
+ghost use Rattle.case_table.specs.CaseRows.{value_of};
+ghost use Rattle.uicc_channels.specs.CommandOutcome.{refused};
 ghost use Rattle.profile_card.specs.Card.{Card, IsSound};
 ghost use Rattle.profile_card.specs.Commands.{decision};
 ghost use Rattle.profile_card.specs.Own.{is_common};
 ghost use Rattle.profile_card.specs.Step.{Event, Outcome, Runs, Steps};
+ghost use Rattle.profile_card.specs.Tables.{classes_of};
 
 use apdu_codec::Sw;
+use case_table::{INS_ROWS, STATUS_ROWS};
 
 /// Each event at a card has one outcome.
 pub fn events_have_one_outcome()
@@ -34,4 +38,25 @@ pub fn cards_stay_sound()
 pub fn common_commands_are_unknown_to_the_card()
     ensures { (card : Card) (c : Apdu) → is_common card.session c ≡ true
         → decision card c ≡ refused card.session Sw.WRONG_INSTRUCTION }
+{}
+
+/// The table of instructions has just the instructions of a UICC, each with the classes that fit it.
+pub fn the_table_of_instructions_has_their_classes()
+    ensures { (ins : ℕ) → ins < 2 ^ 8 → value_of INS_ROWS ins ≡ classes_of ins }
+{}
+
+/// The table of status words has just those that the card's commands answer, each once; the digits of a count are 0.
+pub fn the_table_of_status_words_has_each()
+    ensures { STATUS_ROWS.keys
+        ≡ Sw.OK.0 ∷ Sw.PROACTIVE.0 ∷ (bytes_waiting 256).0 ∷ (wrong_le 256).0
+        ∷ Sw.NOT_FOUND_IN_RECORDS.0 ∷ Sw.SELECTED_DEACTIVATED.0 ∷ Sw.SELECTED_TERMINATED.0
+        ∷ (tries_left 0).0 ∷ Sw.MEMORY_PROBLEM.0 ∷ Sw.WRONG_LENGTH.0
+        ∷ Sw.CHANNEL_NOT_SUPPORTED.0 ∷ Sw.SECURE_MESSAGING_NOT_SUPPORTED.0
+        ∷ Sw.INCOMPATIBLE_STRUCTURE.0 ∷ Sw.SECURITY_NOT_SATISFIED.0 ∷ Sw.PIN_BLOCKED.0
+        ∷ Sw.DATA_BLOCKED.0 ∷ Sw.CONDITIONS_NOT_SATISFIED.0 ∷ Sw.NO_CURRENT_EF.0
+        ∷ Sw.WRONG_DATA.0 ∷ Sw.FUNCTION_NOT_SUPPORTED.0 ∷ Sw.FILE_NOT_FOUND.0
+        ∷ Sw.RECORD_NOT_FOUND.0 ∷ Sw.NOT_ENOUGH_SPACE.0 ∷ Sw.WRONG_P1_P2.0
+        ∷ Sw.DATA_NOT_FOUND.0 ∷ Sw.FILE_EXISTS.0 ∷ Sw.NAME_EXISTS.0 ∷ Sw.WRONG_OFFSET.0
+        ∷ Sw.WRONG_INSTRUCTION.0 ∷ Sw.WRONG_CLASS.0 ∷ Sw.TECHNICAL_PROBLEM.0
+        ∷ Sw.MAXIMUM_REACHED.0 ∷ [] }
 {}

@@ -12,7 +12,8 @@ pub use card1::Card1;
 pub use file_rows::NoMemory;
 pub use laws::{
     cards_stay_sound, commands_have_one_run, common_commands_are_unknown_to_the_card,
-    events_have_one_outcome,
+    events_have_one_outcome, the_table_of_instructions_has_their_classes,
+    the_table_of_status_words_has_each,
 };
 pub use place::Place;
 pub use sample::{sample_card, sample_content};

@@ -1,36 +1,15 @@
 ghost use Rattle.std.specs.Prelude.{◌≡◌, ◌+◌, ◌-◌, ◌<◌, ◌≤◌, ◌==◌, nat_le, nat_lt, length, take, drop, Some, None, MatchResult};
 ghost use Rattle.apdu_codec.specs.Command.{IsCommand, apdu_of};
+ghost use Rattle.uicc_channels.specs.CommandOutcome.{outcome_of};
 ghost use Rattle.uicc_channels.specs.CommandRow.{Follows, decided};
 ghost use Rattle.uicc_channels.specs.Session.{IsOpen};
 ghost use Rattle.uicc_tree.specs.Files.{file_of, rows_of};
-ghost use Rattle.uicc_select.specs.Gives.{Gives};
-ghost use Rattle.uicc_select.specs.Status.{chan_of};
-ghost use Rattle.uicc_channels.specs.Chan.{current_file};
-ghost use Rattle.profile_card.specs.ReadBinary.{is_transparent, life_refusal, may_read as may_be_read, read_binary_row, read_refusal};
+ghost use Rattle.profile_card.specs.ReadBinary.{is_transparent, may_read as may_be_read, read_binary_row, read_refusal};
 
-use apdu_codec::{Answer, AnswerBody, Command, Sw};
-use file_rows::{Kind, Life, Rule};
-use uicc_channels::{Chan, Decided, Session, conclude, require};
+use apdu_codec::{Answer, AnswerBody, Command, Sw, class_fits};
+use file_rows::{Kind, Rule};
+use uicc_channels::{Decided, Session, answer_alone, conclude, require, require_active};
 use uicc_tree::Tree;
-
-// The current EF, where there is one.
-fn find_current(tree: &Tree, chan: &Chan) -> Option<u32>
-    ensures { Gives tree.now result (current_file (rows_of tree.now) chan.now) }
-{
-    let path = chan.file.as_ref()?;
-    tree.find(path.as_slice())
-}
-
-// Refuses a file whose body can't be used.
-fn require_active(life: Life) -> Result<(), Sw>
-    ensures { MatchResult result (λ _. life_refusal life ≡ None) (λ sw. life_refusal life ≡ Some sw) }
-{
-    match life {
-        Life::Active => Ok(()),
-        Life::Deactivated => Err(Sw::DATA_BLOCKED),
-        Life::Terminated => Err(Sw::CONDITIONS_NOT_SATISFIED),
-    }
-}
 
 // Whether a file may be read: no key can be verified yet, so it may where reading is always allowed.
 fn may_read(rule: Option<Rule>) -> bool
@@ -62,25 +41,24 @@ fn read_from(body: &[u8], offset: usize, le: u16) -> Result<AnswerBody, Sw>
 pub(crate) fn read_binary(tree: &Tree, session: &Session, command: &Command) -> Decided
     requires open { IsOpen session.now command.now.channel }
     requires spelled { IsCommand command.now }
-    ensures { result ≡ decided session.now (read_binary_row (rows_of tree.now) session.now (apdu_of command.now)) }
+    ensures { outcome_of session.now result
+        ≡ decided session.now (read_binary_row (rows_of tree.now) session.now (apdu_of command.now)) }
 {
-    conclude(session, read(tree, session, command))
+    conclude(try_read_binary(tree, session, command))
 }
 
-fn read(tree: &Tree, session: &Session, command: &Command) -> Result<Decided, Sw>
+fn try_read_binary(tree: &Tree, session: &Session, command: &Command) -> Result<Decided, Sw>
     requires open { IsOpen session.now command.now.channel }
     requires spelled { IsCommand command.now }
-    ensures { Follows (read_binary_row (rows_of tree.now) session.now (apdu_of command.now)) result }
+    ensures { Follows session.now (read_binary_row (rows_of tree.now) session.now (apdu_of command.now)) result }
 {
-    require(command.class.is_standard(), Sw::WRONG_CLASS)?;
+    require(class_fits(command.ins, command.class), Sw::WRONG_CLASS)?;
     require(command.p1 < 0x80, Sw::WRONG_P1_P2)?;
     let (true, Some(le)) = (command.body.is_empty(), command.le) else {
         return Err(Sw::WRONG_LENGTH);
     };
-    let Some(chan) = session.channel_at(command.channel) else {
-        unreachable!()
-    };
-    let Some(node) = find_current(tree, chan) else {
+    let chan = session.open_channel(command.channel);
+    let Some(node) = tree.find_path(&chan.file) else {
         return Err(Sw::NO_CURRENT_EF);
     };
     let head = tree.head(node);
@@ -89,9 +67,5 @@ fn read(tree: &Tree, session: &Session, command: &Command) -> Result<Decided, Sw
     require(may_read(head.rule), Sw::SECURITY_NOT_SATISFIED)?;
     let offset = usize::from(u16::from_be_bytes([command.p1, command.p2]));
     let body = read_from(tree.bytes(node), offset, le)?;
-    Ok(Decided {
-        answer: Answer { body, sw: Sw::OK },
-        session: session.copy(),
-        change: None,
-    })
+    Ok(answer_alone(Answer { body, sw: Sw::OK }))
 }

@@ -2,7 +2,7 @@
 ghost use Rattle.std.specs.Prelude.{◌≡◌, ◌≤◌, length, IfOk};
 ghost use Rattle.file_rows.specs.Content.{use_of};
 ghost use Rattle.profile_card.specs.CardState.{card_of};
-ghost use Rattle.profile_card.specs.Sample.{file, head, pin, sample, sample_card};
+ghost use Rattle.profile_card.specs.Sample.{sample, sample_card, sample_file, sample_head, sample_pin};
 
 use crate::{Card1, Place};
 use file_rows::{Content, FileHead, FileRow, Kind, Life, Name, NoMemory, Path, PinRow, Rule};
@@ -27,7 +27,7 @@ const RULES: [u8; 95] = [
 // An active file with a rule of the EF ARR 2F06.
 fn sample_head(path: &[u16], kind: Kind, sfi: u8, rule: u8, record_len: u8, size: u16) -> FileHead
     requires { length path.now ≤ 4 }
-    ensures { result ≡ head path.now kind sfi rule record_len size }
+    ensures { result ≡ sample_head path.now kind sfi rule record_len size }
 {
     FileHead {
         path: Path::from_slice(path),
@@ -45,14 +45,14 @@ fn sample_head(path: &[u16], kind: Kind, sfi: u8, rule: u8, record_len: u8, size
 }
 
 // A file whose body begins so and goes on with FF.
-#[tactic(auto, unfolding(crate::specs::Sample::file))]
-fn sample_file(alloc: Global, head: FileHead, front: &[u8]) -> Result<FileRow, NoMemory>
-    requires { length front.now ≤ head.size }
-    ensures { IfOk result (λ row. row ≡ file head front.now) }
+#[tactic(auto, unfolding(crate::specs::Sample::sample_file))]
+fn sample_file(alloc: Global, head: FileHead, prefix: &[u8]) -> Result<FileRow, NoMemory>
+    requires { length prefix.now ≤ head.size }
+    ensures { IfOk result (λ row. row ≡ sample_file head prefix.now) }
 {
     let size = usize::from(head.size);
     let mut body = Vec::with_capacity(alloc, size)?;
-    body.extend_from_slice(front)?;
+    body.extend_from_slice(prefix)?;
     body.resize(size, 0xFF)?;
     Ok(FileRow {
         head,
@@ -62,7 +62,7 @@ fn sample_file(alloc: Global, head: FileHead, front: &[u8]) -> Result<FileRow, N
 
 // An enabled PIN of the MF, with three tries of three and no PUK.
 fn sample_pin(number: u8, key: u8, value: [u8; 8]) -> PinRow
-    ensures { result ≡ pin number key value }
+    ensures { result ≡ sample_pin number key value }
 {
     PinRow {
         number,

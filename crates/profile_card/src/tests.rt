@@ -1,18 +1,22 @@
 //! What no clause says: the sample card and a card with an application as the worked examples have them, and each call
 //! once.
-ghost use Rattle.std.specs.Prelude.{◌≡◌, ◌≤◌, [], ◌∷◌, length};
+ghost use Rattle.std.specs.Prelude.{◌≡◌, ◌≤◌, false, None, Some, IfOk, length};
 ghost use Rattle.file_rows.specs.Content.{IsValid};
+ghost use Rattle.port_table.specs.declared.port_mode.PortMode.TheVariants.{A1};
+ghost use Rattle.uicc_channels.specs.Session.{fresh_session};
+ghost use Rattle.profile_card.specs.Card.{MayFollow, outcome_at};
 ghost use Rattle.profile_card.specs.CardState.{card_of};
-ghost use Rattle.profile_card.specs.Sample.{pin, sample_card};
 
 use super::*;
 use apdu_codec::{Answer, Sw, read_command};
-use file_rows::{Change, Content, FileHead, FileRow, Kind, Life, Name, Path, PinRow, Rule, used};
+use file_rows::{
+    Change, Content, FileHead, FileRow, Kind, Life, Name, Path, Piece, PinRow, Rule, used,
+};
 use plain_lists::LongList;
 use port_table::PortMode;
 use std::alloc::Global;
 use std::test::Fail;
-use uicc_channels::{Decided, fresh};
+use uicc_channels::{Decided, SessionChange, fresh};
 
 const PORT_1_OF_A1: Place = Place {
     port: 1,
@@ -32,6 +36,20 @@ const USIM_NAME: &[u8; 16] = b"\xA0\x00\x00\x00\x87\x10\x02\xFF\xFF\xFF\xFF\x89\
 // A command, and the answer to it: its body and its status word.
 type Case = (&'static [u8], &'static [u8], u16);
 
+// Reserves memory where there is a change, and carries out what was decided.
+fn carry_out(card: &mut Card1, decided: &Decided) -> Result<(), NoMemory>
+    requires { MayFollow (card_of card.old) (outcome_at (card_of card.old) decided.now) }
+{
+    match &decided.change {
+        None => card.settle(decided),
+        Some(change) => {
+            card.reserve(change)?;
+            card.settle(decided);
+        }
+    }
+    Ok(())
+}
+
 // The answer to a command, which is carried out.
 fn ask(card: &mut Card1, bytes: &[u8]) -> Result<Answer, Fail> {
     let command = match read_command(bytes) {
@@ -39,10 +57,7 @@ fn ask(card: &mut Card1, bytes: &[u8]) -> Result<Answer, Fail> {
         Err(sw) => return Ok(Answer::status(sw)),
     };
     let decided = card.decide(&command);
-    if let Some(change) = &decided.change {
-        card.reserve(change)?;
-    }
-    card.settle(&decided);
+    carry_out(card, &decided)?;
     Ok(decided.answer)
 }
 
@@ -78,8 +93,10 @@ fn the_sample_card_uses_781_bytes_of_its_quota(rt: HostRuntime) -> Result<(), Fa
 #[test]
 fn the_sample_card_answers(rt: HostRuntime) -> Result<(), Fail> {
     let mut card = sample_card(rt.alloc())?;
-    let rows: [Case; 11] = [
+    let rows: [Case; 13] = [
         (b"\x00\xB0\x00\x00\x05", b"", 0x6986),
+        (b"\x00\xA4\x00\x0C\x02\x2F\x00", b"", 0x9000),
+        (b"\x00\xB0\x00\x00\x05", b"", 0x6981),
         (b"\x00\xA4\x00\x0C\x02\x2F\x08", b"", 0x9000),
         (b"\x00\xB0\x00\x00\x05", b"", 0x6982),
         (b"\x00\xA4\x00\x0C\x02\x6F\x07", b"", 0x6A82),
@@ -113,7 +130,7 @@ fn make_row(
     alloc: Global,
     path: &[u16],
     kind: Kind,
-    sfi: u8,
+    life: Life,
     name: &[u8],
     body: &[u8],
 ) -> Result<FileRow, NoMemory>
@@ -125,8 +142,8 @@ fn make_row(
         head: FileHead {
             path: Path::from_slice(path),
             kind,
-            life: Life::Active,
-            sfi,
+            life,
+            sfi: 0,
             name: Name::from_slice(name),
             rule: Some(Rule {
                 file: 0x2F06,
@@ -139,9 +156,7 @@ fn make_row(
     })
 }
 
-fn make_pin(number: u8, key: u8) -> PinRow
-    ensures { result ≡ pin number key (0x38 ∷ 0x38 ∷ 0x38 ∷ 0x38 ∷ 0x38 ∷ 0x38 ∷ 0x38 ∷ 0x38 ∷ []) }
-{
+fn make_pin(number: u8, key: u8) -> PinRow {
     PinRow {
         number,
         home: Path::new(),
@@ -154,21 +169,24 @@ fn make_pin(number: u8, key: u8) -> PinRow
     }
 }
 
-// An MF with an EF and an application that has an EF too.
+// An MF with three EFs, of which one is deactivated and one terminated, and an application that has an EF too.
 fn content_with_application(alloc: Global) -> Result<Content, NoMemory> {
     let iccid = b"\x98\x94\x00\x00\x00\x00\x00\x00\x00\xF2";
+    let ef = Kind::Transparent;
     let rows = [
-        make_row(alloc, &[], Kind::Master, 0, b"", b"")?,
-        make_row(alloc, &[0x2FE2], Kind::Transparent, 2, b"", iccid)?,
-        make_row(alloc, &[0x7FD0], Kind::Application, 0, USIM_NAME, b"")?,
+        make_row(alloc, &[], Kind::Master, Life::Active, b"", b"")?,
+        make_row(alloc, &[0x2FE2], ef, Life::Active, b"", iccid)?,
+        make_row(alloc, &[0x6F3A], ef, Life::Deactivated, b"", b"\x01")?,
+        make_row(alloc, &[0x6F3B], ef, Life::Terminated, b"", b"\x02")?,
         make_row(
             alloc,
-            &[0x7FD0, 0x6F07],
-            Kind::Transparent,
-            7,
+            &[0x7FD0],
+            Kind::Application,
+            Life::Active,
+            USIM_NAME,
             b"",
-            &[0xFF; 9],
         )?,
+        make_row(alloc, &[0x7FD0, 0x6F07], ef, Life::Active, b"", &[0xFF; 9])?,
     ];
     let pins = [make_pin(1, 0x01), make_pin(2, 0x0A)];
     Ok(Content {
@@ -180,6 +198,8 @@ fn content_with_application(alloc: Global) -> Result<Content, NoMemory> {
 // A card with this content, with a fresh session.
 fn start(alloc: Global, content: &Content) -> Result<Card1, NoMemory>
     requires { IsValid content.now }
+    ensures { IfOk result (λ card. card_of card
+        ≡ record { content = content.now; session = fresh_session false None; mode = A1; port = Some 1 }) }
 {
     Card1::start(alloc, content, fresh(false, None), PORT_1_OF_A1)
 }
@@ -188,10 +208,10 @@ fn start(alloc: Global, content: &Content) -> Result<Card1, NoMemory>
 fn a_modem_finds_the_application(rt: HostRuntime) -> Result<(), Fail> {
     let content = content_with_application(rt.alloc())?;
     if !content.is_valid() {
-        return Err(Fail::from("the content is none of a card"));
+        return Err(Fail::from("no card may hold this content"));
     }
     let mut card = start(rt.alloc(), &content)?;
-    let rows: [Case; 9] = [
+    let rows: [Case; 13] = [
         (
             b"\x00\xA4\x00\x04\x02\x3F\x00\x00",
             MASTER_PARAMETERS,
@@ -208,6 +228,10 @@ fn a_modem_finds_the_application(rt: HostRuntime) -> Result<(), Fail> {
             b"\x98\x94\x00\x00\x00\x00\x00\x00\x00\xF2",
             0x9000,
         ),
+        (b"\x00\xA4\x00\x0C\x02\x6F\x3A", b"", 0x6283),
+        (b"\x00\xB0\x00\x00\x01", b"", 0x6984),
+        (b"\x00\xA4\x00\x0C\x02\x6F\x3B", b"", 0x6285),
+        (b"\x00\xB0\x00\x00\x01", b"", 0x6985),
         (
             b"\x00\xA4\x04\x04\x10\xA0\x00\x00\x00\x87\x10\x02\xFF\xFF\xFF\xFF\x89\x00\x00\x01\x00\x00",
             USIM_PARAMETERS,
@@ -250,34 +274,40 @@ fn blank(alloc: Global, place: Place) -> Card1 {
     Card1::blank(alloc, fresh(false, None), place)
 }
 
-// Sets a PIN of the sample card to what it is.
-fn set_again(card: &mut Card1) -> Result<(), NoMemory>
-    requires { card_of card.old ≡ sample_card }
+// Carries out a change that fits the content of a card in its fresh session.
+fn change(card: &mut Card1, content: &Content, change: Change) -> Result<(), Fail>
+    requires valid { IsValid content.now }
+    requires card { card_of card.old
+        ≡ record { content = content.now; session = fresh_session false None; mode = A1; port = Some 1 } }
 {
-    let change = Change::PinSet {
-        row: make_pin(2, 0x0A),
-    };
-    card.reserve(&change)?;
-    card.settle(&Decided {
+    if !content.fits(&change) {
+        return Err(Fail::from("the change doesn't fit the content"));
+    }
+    let decided = Decided {
         answer: Answer::status(Sw::OK),
-        session: fresh(false, None),
+        session: SessionChange::none(),
         change: Some(change),
-    });
-    Ok(())
+    };
+    Ok(carry_out(card, &decided)?)
 }
 
 #[test]
 fn memory_is_reserved_and_a_change_made(rt: HostRuntime) -> Result<(), Fail> {
-    let mut card = sample_card(rt.alloc())?;
-    set_again(&mut card)?;
-    assert_eq!(rt; ask(&mut card, b"\x00\xA4\x00\x0C\x02\x2F\x05")?.sw, Sw::OK);
+    let content = content_with_application(rt.alloc())?;
+    if !content.is_valid() {
+        return Err(Fail::from("no card may hold this content"));
+    }
+    let mut card = start(rt.alloc(), &content)?;
+    let write = Change::WriteRange {
+        path: Path::from_slice(&[0x2FE2]),
+        offset: 8,
+        bytes: Piece::from_slice(&[0xAB, 0xCD]),
+    };
+    change(&mut card, &content, write)?;
+    let rows: [Case; 2] = [
+        (b"\x00\xA4\x00\x0C\x02\x2F\xE2", b"", 0x9000),
+        (b"\x00\xB0\x00\x07\x00", b"\x00\xAB\xCD", 0x9000),
+    ];
+    assert_eq!(rt; first_other(&mut card, &rows)?, None);
     Ok(())
-}
-
-#[test]
-fn the_laws_of_cards_are_callable() {
-    events_have_one_outcome();
-    commands_have_one_run();
-    cards_stay_sound();
-    common_commands_are_unknown_to_the_card();
 }

@@ -8,13 +8,12 @@ use Rattle.std.specs.Option.{unwrap_or}
 use Rattle.std.specs.Prelude.{◌==◌, Any}
 use Rattle.file_rows.specs.Content.{AreFiles, AreTree, StandInEarlier, heads_of}
 use Rattle.file_rows.specs.FileHead.{Holds, holds_files}
-use Rattle.file_rows.specs.Path.{master, same_path}
+use Rattle.file_rows.specs.Path.{master, parent_of, same_path}
 use Rattle.file_rows.specs.declared.head.FileHead.{FileHead}
 use Rattle.file_rows.specs.declared.head.Kind.{Kind}
 use Rattle.file_rows.specs.declared.row.FileRow.{FileRow}
 use Rattle.uicc_channels.specs.Chan.{IsDirectoryIn}
 use Rattle.uicc_select.proofs.FoundLemmas.{AreApart, IsAmong, among_first, among_later, found_head}
-use Rattle.uicc_select.specs.Find.{parent_of}
 
 -- what holds of one of the first ones holds of one of all
 any_of_more : (P : FileHead → Type 0) (xs ys : List FileHead) → Any P xs → Any P (xs ++ ys)
@@ -56,12 +55,12 @@ one_among P (row ∷ rows) apart (suc k) head within at holds =
 parent_of-longer : (path : List ℕ) (n : ℕ) → length path ≡ n + 1 → unwrap_or (parent_of path) master ≡ take n path
 parent_of-longer path n e =
     let some : (length path == 0) ≡ false = grind (arith, nat_tests) in
-    let front : length path - 1 ≡ n = omega (arith, e) in
-    rw (some, front) refl
+    let before : length path - 1 ≡ n = omega (arith, e) in
+    rw (some, before) refl
 
 -- the directory of a path is what stands before its last identifier
-parent_of-snoc : (front : List ℕ) (id : ℕ) → unwrap_or (parent_of (front ++ id ∷ [])) master ≡ front
-parent_of-snoc front id = parent_of-longer (front ++ id ∷ []) (length front) (length-append front (id ∷ [])) ∙ take-append_seam front (id ∷ [])
+parent_of-snoc : (prefix : List ℕ) (id : ℕ) → unwrap_or (parent_of (prefix ++ id ∷ [])) master ≡ prefix
+parent_of-snoc prefix id = parent_of-longer (prefix ++ id ∷ []) (length prefix) (length-append prefix (id ∷ [])) ∙ take-append_seam prefix (id ∷ [])
 
 -- the directory of an EF is among the files
 pub directory_of_file : (rows : List FileRow) (row : FileRow) → AreFiles rows → IsAmong rows row → holds_files row.head.kind ≡ false → IsDirectoryIn rows (unwrap_or (parent_of row.head.path) master)

@@ -1,19 +1,25 @@
-use Rattle.std.proofs.Common.{◌≡◌, ◌≢◌, ◌⊎◌, ℕ, Bool, true, false, cond, List, [], ◌∷◌, ◌++◌, find, refl, sym, ◌∙◌, ap, subst, inl, inr, Option, Some, None, IfSome, ⊎_elim}
+use Rattle.std.proofs.Common.{◌≡◌, ◌≢◌, ◌⊎◌, ℕ, Bool, true, false, cond, zero, suc, ◌+◌, ◌<◌, List, [], ◌∷◌, ◌++◌, length, get_or, drop, drop-cons, add-one, find, refl, sym, ◌∙◌, ap, subst, inl, inr, Option, Some, None, IfSome, ⊎_elim}
 use Rattle.std.specs.List.{AllByRecursion}
 use Rattle.std.specs.Prelude.{◌==◌}
 use Rattle.std.specs.Option.{option_and_then, option_or}
 use Rattle.plain_lists.specs.EachTwo.{EachTwo}
-use Rattle.fcp_codec.specs.Writing.{own_id}
 use Rattle.file_rows.proofs.ChangeLemmas.{same_path-other, same_path-refl}
 use Rattle.file_rows.specs.Content.{file_at, heads_of}
-use Rattle.file_rows.specs.Path.{same_path}
+use Rattle.file_rows.specs.Find.{child, file_of_path, only}
+use Rattle.file_rows.specs.Path.{own_id, parent_of, same_path}
 use Rattle.file_rows.specs.declared.head.FileHead.{FileHead}
+use Rattle.file_rows.specs.declared.path.TheConstants.{CURRENT_APPLICATION_ID, MASTER_FILE_ID}
 use Rattle.file_rows.specs.declared.row.FileRow.{FileRow}
 use Rattle.uicc_channels.specs.declared.chan.Chan.{Chan}
-use Rattle.uicc_select.specs.Find.{child, directory_in, down, file_of_path, found, found_by_id, found_near, from_master, named, only, parent_of}
-use Rattle.uicc_select.specs.declared.find.TheConstants.{CURRENT_APPLICATION, MASTER_FILE}
+use Rattle.uicc_select.specs.Find.{directory_in, found, found_by_id, found_from_master, found_near, found_through, itself}
 use Rattle.uicc_select.specs.declared.naming.Target.{Target}
 use Rattle.uicc_select.specs.declared.naming.Target.TheVariants.{Id, Directory, Parent, Named, FromMaster, FromCurrent}
+
+-- the next identifier of a path names a file in the one before
+pub found_through-next : (rows : List FileRow) (ids : List ℕ) (i : ℕ) (row next : FileRow) → i < length ids → child rows row.head.path (get_or ids i 0) ≡ Some next
+    → found_through rows (drop (i + 1) ids) next ≡ found_through rows (drop i ids) row
+found_through-next rows ids i row next within e =
+    rw (add-one, drop-cons ids i 0) (sym (ap (λ (file : Option FileRow). option_and_then (found_through rows (drop (suc i) ids)) file) e))
 
 -- no two files have one path
 abbrev pub AreApart : List FileRow → Type 0
@@ -40,7 +46,7 @@ found_head P test [] row each e = absurd (cc)
 found_head P test (r ∷ rows) row each e =
     ⊎_elim (λ here. subst (λ (x : FileRow). P x.head) here.1 each.0) (λ later. found_head P test rows row each.1 later) (find_step (test r) r (find test rows) row e)
 
--- a file in front has another path
+-- an earlier file has another path
 pub among_later : (r : FileRow) (rows : List FileRow) (row : FileRow) → AllByRecursion (λ other. r.head.path ≢ other.path) (heads_of rows) → IsAmong rows row → IsAmong (r ∷ rows) row
 among_later r rows row apart among =
     let other : r.head.path ≢ row.head.path = found_head (λ (head : FileHead). r.head.path ≢ head.path) (λ (x : FileRow). same_path x.head.path row.head.path) rows row apart among in
@@ -99,8 +105,8 @@ module _ (rows : List FileRow) (apart : AreApart rows) where
   by_directory : (directory : List ℕ) (id : ℕ) → IfSome (directory_in rows directory id) (IsAmong rows)
   by_directory directory id = by_passing _ _ (by_child directory id)
 
-  by_name : (id : ℕ) (path : List ℕ) → IfSome (named rows id path) (IsAmong rows)
-  by_name id path = IfSome-cond (IsAmong rows) (own_id path == id) (file_at path rows) None (by_path path) tt
+  by_itself : (id : ℕ) (path : List ℕ) → IfSome (itself rows id path) (IsAmong rows)
+  by_itself id path = IfSome-cond (IsAmong rows) (own_id path == id) (file_at path rows) None (by_path path) tt
 
   by_some_path : (path : Option (List ℕ)) → IfSome (file_of_path rows path) (IsAmong rows)
   by_some_path path = IfSome-any (IsAmong rows) _ path by_path
@@ -108,27 +114,27 @@ module _ (rows : List FileRow) (apart : AreApart rows) where
   by_near : (directory : List ℕ) (id : ℕ) → IfSome (found_near rows directory id) (IsAmong rows)
   by_near directory id =
       IfSome-or (IsAmong rows) _ _ (by_child directory id)
-      (IfSome-or (IsAmong rows) _ _ (by_name id directory)
-      (IfSome-or (IsAmong rows) _ _ (IfSome-any (IsAmong rows) (named rows id) (parent_of directory) (by_name id))
+      (IfSome-or (IsAmong rows) _ _ (by_itself id directory)
+      (IfSome-or (IsAmong rows) _ _ (IfSome-any (IsAmong rows) (itself rows id) (parent_of directory) (by_itself id))
       (IfSome-or (IsAmong rows) _ _ (IfSome-any (IsAmong rows) (λ parent. directory_in rows parent id) (parent_of directory) (λ parent. by_directory parent id)) tt)))
 
   by_id : (chan : Chan) (id : ℕ) → IfSome (found_by_id rows chan id) (IsAmong rows)
   by_id chan id =
-      IfSome-cond (IsAmong rows) (id == MASTER_FILE) _ _ (by_path [])
-      (IfSome-cond (IsAmong rows) (id == CURRENT_APPLICATION) (file_of_path rows chan.app) (found_near rows chan.dir id) (by_some_path chan.app) (by_near chan.dir id))
+      IfSome-cond (IsAmong rows) (id == MASTER_FILE_ID) _ _ (by_path [])
+      (IfSome-cond (IsAmong rows) (id == CURRENT_APPLICATION_ID) (file_of_path rows chan.app) (found_near rows chan.dir id) (by_some_path chan.app) (by_near chan.dir id))
 
-  by_steps : (ids : List ℕ) (row : FileRow) → IsAmong rows row → IfSome (down rows ids row) (IsAmong rows)
+  by_steps : (ids : List ℕ) (row : FileRow) → IsAmong rows row → IfSome (found_through rows ids row) (IsAmong rows)
   by_steps [] row among = among
   by_steps (id ∷ ids) row among =
-      IfSome-then (IsAmong rows) (IsAmong rows) (down rows ids) (child rows row.head.path id) (by_child row.head.path id) (by_steps ids)
+      IfSome-then (IsAmong rows) (IsAmong rows) (found_through rows ids) (child rows row.head.path id) (by_child row.head.path id) (by_steps ids)
 
-  by_steps_from : (ids : List ℕ) (start : Option FileRow) → IfSome start (IsAmong rows) → IfSome (option_and_then (down rows ids) start) (IsAmong rows)
-  by_steps_from ids start among = IfSome-then (IsAmong rows) (IsAmong rows) (down rows ids) start among (by_steps ids)
+  by_steps_from : (ids : List ℕ) (start : Option FileRow) → IfSome start (IsAmong rows) → IfSome (option_and_then (found_through rows ids) start) (IsAmong rows)
+  by_steps_from ids start among = IfSome-then (IsAmong rows) (IsAmong rows) (found_through rows ids) start among (by_steps ids)
 
-  by_master : (chan : Chan) (ids : List ℕ) → IfSome (from_master rows chan ids) (IsAmong rows)
+  by_master : (chan : Chan) (ids : List ℕ) → IfSome (found_from_master rows chan ids) (IsAmong rows)
   by_master chan [] = tt
   by_master chan (id ∷ ids) =
-      IfSome-cond (IsAmong rows) (id == CURRENT_APPLICATION) _ _ (by_steps_from ids (file_of_path rows chan.app) (by_some_path chan.app))
+      IfSome-cond (IsAmong rows) (id == CURRENT_APPLICATION_ID) _ _ (by_steps_from ids (file_of_path rows chan.app) (by_some_path chan.app))
       (by_steps_from (id ∷ ids) (file_at [] rows) (by_path []))
 
   -- what a channel finds is a file of the card

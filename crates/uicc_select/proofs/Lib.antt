@@ -1,7 +1,5 @@
 pub mod DirectoryLemmas
 pub mod FileLemmas
 pub mod FoundLemmas
-pub mod NeedsLemmas
-pub mod RowLemmas
-pub mod SampleLemmas
 pub mod SuitsLemmas
+pub mod SelectionLemmas

@@ -1,41 +1,41 @@
-use Rattle.std.specs.Prelude.{ℕ, Bool, true, false, ◌==◌, ◌&&◌, ◌||◌, if◌then◌else◌, List, [], length, Option, Some, None, option_and_then, option_map, unwrap_or, is_some}
-use Rattle.apdu_codec.specs.Class.{is_standard}
+use Rattle.std.specs.Prelude.{ℕ, Bool, false, ◌==◌, ◌&&◌, ◌||◌, if◌then◌else◌, List, [], Option, Some, None, option_and_then, unwrap_or, is_some}
+use Rattle.std.specs.Str.{bytes_eq}
+use Rattle.apdu_codec.specs.Answer.{status_alone}
 use Rattle.apdu_codec.specs.Command.{Apdu}
 use Rattle.apdu_codec.specs.declared.answers.Answer.{Answer}
 use Rattle.apdu_codec.specs.declared.status.Sw.{Sw}
 use Rattle.apdu_codec.specs.declared.status.TheConstants.Sw.{FILE_NOT_FOUND, OK, SELECTED_DEACTIVATED, SELECTED_TERMINATED}
 use Rattle.fcp_codec.specs.Writing.{written}
 use Rattle.file_rows.specs.FileHead.{holds_files}
-use Rattle.file_rows.specs.Path.{master, same_path}
+use Rattle.file_rows.specs.Path.{master, parent_of}
 use Rattle.file_rows.specs.declared.head.FileHead.{FileHead}
 use Rattle.file_rows.specs.declared.head.Life.{Life}
 use Rattle.file_rows.specs.declared.head.Life.TheVariants.{Active, Deactivated, Terminated}
 use Rattle.file_rows.specs.declared.pin.PinRow.{PinRow}
 use Rattle.file_rows.specs.declared.row.FileRow.{FileRow}
-use Rattle.uicc_channels.specs.Answer.{status, wrong_le}
 use Rattle.uicc_channels.specs.Chan.{at_isdr}
-use Rattle.uicc_channels.specs.Delivery.{answered}
+use Rattle.uicc_channels.specs.CommandOutcome.{CommandOutcome, answering}
 use Rattle.uicc_channels.specs.CommandRow.{CommandRow}
-use Rattle.uicc_channels.specs.Session.{channel_at, with_channel}
+use Rattle.uicc_channels.specs.Delivery.{answered, le_refusal, waiting}
+use Rattle.uicc_channels.specs.Needs.{needs_of}
+use Rattle.uicc_channels.specs.Session.{open_channel, with_channel}
 use Rattle.uicc_channels.specs.declared.chan.Chan.{Chan}
-use Rattle.uicc_channels.specs.declared.decided.Decided.{Decided}
 use Rattle.uicc_channels.specs.declared.session.Session.{Session}
-use Rattle.uicc_select.specs.Find.{found, parent_of}
-use Rattle.uicc_select.specs.Status.{chan_of}
-use Rattle.uicc_select.specs.Target.{is_way, target_of}
+use Rattle.uicc_select.specs.Find.{found}
+use Rattle.uicc_select.specs.Target.{is_selection_method, target_of}
 use Rattle.uicc_select.specs.declared.selection.TheConstants.{ISDR_AID}
 use Rattle.uicc_select.specs.declared.naming.Target.{Target}
 use Rattle.uicc_select.specs.declared.naming.Target.TheVariants.{Id, Directory, Parent, Named, FromMaster, FromCurrent}
 
 -- P2 00 and 0C: no answer body; 04: the control parameters of the file
 abbrev pub are_of_select : ℕ → ℕ → Bool
-are_of_select p1 p2 = is_way p1 && ((p2 == 0x00) || (p2 == 0x04) || (p2 == 0x0C))
+are_of_select p1 p2 = is_selection_method p1 && ((p2 == 0x00) || (p2 == 0x04) || (p2 == 0x0C))
 
 -- how a file that is selected answers, by its life cycle status
-abbrev pub selected : Life → Sw
-selected Active = OK
-selected Deactivated = SELECTED_DEACTIVATED
-selected Terminated = SELECTED_TERMINATED
+abbrev pub selected_status : Life → Sw
+selected_status Active = OK
+selected_status Deactivated = SELECTED_DEACTIVATED
+selected_status Terminated = SELECTED_TERMINATED
 
 -- selecting an application by its name makes it the channel's
 abbrev pub application_after : Option (List ℕ) → Target → List ℕ → Option (List ℕ)
@@ -46,57 +46,53 @@ application_after app (Named name) path = Some path
 application_after app (FromMaster ids) path = app
 application_after app (FromCurrent ids) path = app
 
--- a directory becomes current with no EF; an EF becomes current and so does its directory, with no record
-abbrev pub standing_at : Chan → Target → FileHead → List ℕ → Chan
-standing_at chan target head pending =
+-- a directory becomes current with no EF; an EF becomes current and so does its directory, with no record; nothing waits
+abbrev pub standing_at : Chan → Target → FileHead → Chan
+standing_at chan target head =
     let path = head.path in
     let app = application_after chan.app target path in
     if holds_files head.kind
-    then record { isdr = false; app = app; dir = path; file = None; pointer = 0; pending = pending }
+    then record { isdr = false; app = app; dir = path; file = None; pointer = 0; pending = [] }
     else record {
       isdr = false;
       app = app;
       dir = unwrap_or (parent_of path) master;
       file = Some path;
       pointer = 0;
-      pending = pending;
+      pending = [];
     }
 
--- with no Le the answer body waits on the channel
-abbrev pub left_waiting : Option ℕ → List ℕ → List ℕ
-left_waiting None body = body
-left_waiting (Some le) body = []
+-- how an answer body is answered, and without one the status word for success alone
+abbrev pub answered_if_some : Sw → Option ℕ → Option (List ℕ) → Answer
+answered_if_some success le None = status_alone success
+answered_if_some success le (Some body) = answered success le body
 
--- why an answer body isn't given
-abbrev pub le_refusal : Option ℕ → List ℕ → Option Sw
-le_refusal None body = None
-le_refusal (Some le) body = if (le == 256) || (le == length body) then None else Some (wrong_le (length body))
+-- what is left waiting of an answer body, where there is one
+abbrev pub waiting_if_some : Option ℕ → Session → ℕ → Option (List ℕ) → Session
+waiting_if_some le session channel None = session
+waiting_if_some le session channel (Some body) = waiting le session channel body
 
--- an answer with this status word in the place of `9000`
-abbrev pub in_place_of_ok : Sw → Answer → Answer
-in_place_of_ok sw answer = record { body = answer.body; sw = if answer.sw.0 == OK.0 then sw else answer.sw }
-
--- a file is selected: with its control parameters or with no answer body
-abbrev pub selecting : Session → Apdu → Chan → Target → Option (List ℕ) → FileHead → Decided
-selecting session c chan target parameters head =
-    let pending = left_waiting c.le (unwrap_or parameters []) in
+-- a file is selected: the channel stands at it, and then its control parameters are delivered, where they are asked for
+abbrev pub selecting : Session → Apdu → Target → Option (List ℕ) → FileHead → CommandOutcome
+selecting session c target parameters head =
+    let after = standing_at (open_channel session c.channel) target head in
+    let moved = with_channel session c.channel (Some after) in
     record {
-      answer = in_place_of_ok (selected head.life) (unwrap_or (option_map (answered c.le) parameters) (status OK));
-      session = with_channel session c.channel (Some (standing_at chan target head pending));
+      answer = answered_if_some (selected_status head.life) c.le parameters;
+      session = waiting_if_some c.le moved c.channel parameters;
       change = None;
     }
 
 -- the ISD-R is selected
-abbrev pub selecting_isdr : Session → Apdu → Decided
-selecting_isdr session c =
-    record { answer = status OK; session = with_channel session c.channel (Some at_isdr); change = None }
+abbrev pub selecting_isdr : Session → Apdu → CommandOutcome
+selecting_isdr session c = answering (with_channel session c.channel (Some at_isdr)) (status_alone OK)
 
 -- the ISD-R is named by its whole AID alone
 abbrev pub names_isdr : Target → Bool
 names_isdr (Id id) = false
 names_isdr (Directory id) = false
 names_isdr Parent = false
-names_isdr (Named name) = same_path name ISDR_AID
+names_isdr (Named name) = bytes_eq name ISDR_AID
 names_isdr (FromMaster ids) = false
 names_isdr (FromCurrent ids) = false
 
@@ -104,48 +100,45 @@ names_isdr (FromCurrent ids) = false
 abbrev pub parameters_for : ℕ → List PinRow → FileRow → Option (List ℕ)
 parameters_for p2 pins row = if p2 == 0x04 then Some (written row.head pins) else None
 
--- whether there is what the target names, what it comes to, and why it may be refused then
-pub record Choice : Type 0 where
-  pub is_there : Bool
+-- what a target comes to: why it isn't there, why it may be refused where it is, and what selecting it comes to
+pub record Selection : Type 0 where
+  pub file : Option Sw
   pub own : Option Sw
-  pub done : Decided
+  pub done : CommandOutcome
 
-abbrev pub choice_of_file : List PinRow → Session → Apdu → Chan → Target → Option FileRow → Choice
-choice_of_file pins session c chan target None =
-    record { is_there = false; own = None; done = record { answer = status OK; session = session; change = None } }
-choice_of_file pins session c chan target (Some row) =
+abbrev pub no_selection : Session → Selection
+no_selection session =
+    record { file = Some FILE_NOT_FOUND; own = None; done = answering session (status_alone OK) }
+
+abbrev pub selection_of_file : List PinRow → Session → Apdu → Target → Option FileRow → Selection
+selection_of_file pins session c target None = no_selection session
+selection_of_file pins session c target (Some row) =
     let parameters = parameters_for c.p2 pins row in
     record {
-      is_there = true;
+      file = None;
       own = option_and_then (le_refusal c.le) parameters;
-      done = selecting session c chan target parameters row.head;
+      done = selecting session c target parameters row.head;
     }
 
-abbrev pub choice_of : List FileRow → List PinRow → Session → Bool → Apdu → Option Target → Choice
-choice_of rows pins session isdr_here c None =
-    record { is_there = false; own = None; done = record { answer = status OK; session = session; change = None } }
-choice_of rows pins session isdr_here c (Some target) =
+-- the ISD-R, where it is here and named, before the files
+abbrev pub selection_of : List FileRow → List PinRow → Session → Bool → Apdu → Option Target → Selection
+selection_of rows pins session isdr_here c None = no_selection session
+selection_of rows pins session isdr_here c (Some target) =
     if isdr_here && names_isdr target
-    then record { is_there = true; own = None; done = selecting_isdr session c }
-    else choice_of_file pins session c (chan_of session c) target (found rows (chan_of session c) target)
+    then record { file = None; own = None; done = selecting_isdr session c }
+    else selection_of_file pins session c target (found rows (open_channel session c.channel) target)
 
 -- ETSI TS 102 221, SELECT
 abbrev pub select_row : List FileRow → List PinRow → Session → Bool → Apdu → CommandRow
 select_row rows pins session isdr_here c =
     let target = target_of c.p1 c.body in
-    let choice = choice_of rows pins session isdr_here c target in
+    let selection = selection_of rows pins session isdr_here c target in
     record {
-      needs = record {
-        channel = is_some (channel_at session c.channel);
-        instruction = true;
-        class = is_standard c.class;
+      needs = record (needs_of session c) {
         parameters = are_of_select c.p1 c.p2;
         lengths = is_some target;
-        file = if choice.is_there then None else Some FILE_NOT_FOUND;
-        kind = true;
-        life = None;
-        access = true;
-        own = choice.own;
+        file = selection.file;
+        own = selection.own;
       };
-      done = choice.done;
+      done = selection.done;
     }

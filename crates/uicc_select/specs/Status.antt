@@ -1,25 +1,20 @@
-use Rattle.std.specs.Prelude.{ℕ, ◌==◌, ◌&&◌, ◌||◌, if◌then◌else◌, Bool, true, false, List, [], ◌∷◌, length, Option, Some, None, option_map, unwrap_or, is_some}
-use Rattle.apdu_codec.specs.Class.{is_special}
+use Rattle.std.specs.Prelude.{ℕ, ◌==◌, ◌&&◌, ◌||◌, if◌then◌else◌, Bool, List, [], ◌∷◌, length, Option, Some, None, option_map, unwrap_or, is_some}
+use Rattle.apdu_codec.specs.Answer.{status_alone}
 use Rattle.apdu_codec.specs.Command.{Apdu}
 use Rattle.apdu_codec.specs.declared.status.Sw.{Sw}
 use Rattle.apdu_codec.specs.declared.status.TheConstants.Sw.{DATA_NOT_FOUND, FILE_NOT_FOUND, OK}
 use Rattle.fcp_codec.specs.Writing.{written}
 use Rattle.file_rows.specs.Content.{file_at}
+use Rattle.file_rows.specs.Find.{file_of_path}
 use Rattle.file_rows.specs.declared.pin.PinRow.{PinRow}
 use Rattle.file_rows.specs.declared.row.FileRow.{FileRow}
-use Rattle.uicc_channels.specs.Answer.{status}
-use Rattle.uicc_channels.specs.Chan.{at_master}
-use Rattle.uicc_channels.specs.Delivery.{delivered}
+use Rattle.uicc_channels.specs.CommandOutcome.{CommandOutcome, answering}
 use Rattle.uicc_channels.specs.CommandRow.{CommandRow}
-use Rattle.uicc_channels.specs.Session.{channel_at}
+use Rattle.uicc_channels.specs.Delivery.{delivered}
+use Rattle.uicc_channels.specs.Needs.{needs_of, refused_unless}
+use Rattle.uicc_channels.specs.Session.{open_channel}
 use Rattle.uicc_channels.specs.declared.chan.Chan.{Chan}
-use Rattle.uicc_channels.specs.declared.decided.Decided.{Decided}
 use Rattle.uicc_channels.specs.declared.session.Session.{Session}
-use Rattle.uicc_select.specs.Find.{file_of_path}
-
--- the channel of a command
-abbrev pub chan_of : Session → Apdu → Chan
-chan_of session c = unwrap_or (channel_at session c.channel) at_master
 
 -- P1 00, 01 and 02, of which none changes the answer; P2 00, 01 and 0C: the control parameters of the current
 -- directory, the application's name, no answer body
@@ -39,34 +34,21 @@ parameters_of_directory rows pins chan = option_map (λ row. written row.head pi
 abbrev pub name_of_application : List FileRow → Chan → Option (List ℕ)
 name_of_application rows chan = option_map (λ row. name_object row.head.name) (file_of_path rows chan.app)
 
--- what is delivered, where there is something
-abbrev pub delivered_of : Session → Apdu → Option (List ℕ) → Decided
-delivered_of session c body = delivered session c (unwrap_or body [])
-
-abbrev pub refused_unless_there : {X : Type 0} → Option X → Sw → Option Sw
-refused_unless_there found sw = if is_some found then None else Some sw
-
 -- ETSI TS 102 221, STATUS
 abbrev pub status_row : List FileRow → List PinRow → Session → Apdu → CommandRow
 status_row rows pins session c =
-    let chan = chan_of session c in
+    let chan = open_channel session c.channel in
     let parameters = parameters_of_directory rows pins chan in
     let name = name_of_application rows chan in
     record {
-      needs = record {
-        channel = is_some (channel_at session c.channel);
-        instruction = true;
-        class = is_special c.class;
+      needs = record (needs_of session c) {
         parameters = are_of_status c.p1 c.p2;
         lengths = length c.body == 0;
-        file = if c.p2 == 0x00 then refused_unless_there parameters FILE_NOT_FOUND else None;
-        kind = true;
-        life = None;
-        access = true;
-        own = if c.p2 == 0x01 then refused_unless_there name DATA_NOT_FOUND else None;
+        file = if c.p2 == 0x00 then refused_unless (is_some parameters) FILE_NOT_FOUND else None;
+        own = if c.p2 == 0x01 then refused_unless (is_some name) DATA_NOT_FOUND else None;
       };
       done =
-          if c.p2 == 0x00 then delivered_of session c parameters
-          else if c.p2 == 0x01 then delivered_of session c name
-          else record { answer = status OK; session = session; change = None };
+          if c.p2 == 0x00 then delivered session c (unwrap_or parameters [])
+          else if c.p2 == 0x01 then delivered session c (unwrap_or name [])
+          else answering session (status_alone OK);
     }

@@ -3,9 +3,9 @@ use Rattle.apdu_codec.specs.Class.{is_within}
 use Rattle.uicc_select.specs.declared.naming.Target.{Target}
 use Rattle.uicc_select.specs.declared.naming.Target.TheVariants.{Id, Directory, Parent, Named, FromMaster, FromCurrent}
 
--- ETSI TS 102 221, SELECT: the listed ways of naming a file, by P1
-abbrev pub is_way : ℕ → Bool
-is_way p1 = (p1 == 0x00) || (p1 == 0x01) || (p1 == 0x03) || (p1 == 0x04) || (p1 == 0x08) || (p1 == 0x09)
+-- ETSI TS 102 221, SELECT: P1 is one of the selection methods
+abbrev pub is_selection_method : ℕ → Bool
+is_selection_method p1 = (p1 == 0x00) || (p1 == 0x01) || (p1 == 0x03) || (p1 == 0x04) || (p1 == 0x08) || (p1 == 0x09)
 
 -- a file identifier, in two bytes
 abbrev pub id_in : List ℕ → Option ℕ

@@ -8,12 +8,12 @@ mod laws;
 mod naming;
 mod parameters;
 mod selection;
-mod state;
+mod status_command;
 
-pub use laws::sessions_suit_after_selection;
+pub use laws::{sessions_suit_after_selection, the_isdr_has_its_aid};
 pub use naming::Target;
 pub use selection::{ISDR_AID, select};
-pub use state::status;
+pub use status_command::status;
 
 #[cfg(test)]
 mod tests;

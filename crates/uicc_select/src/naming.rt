@@ -1,5 +1,5 @@
 ghost use Rattle.std.specs.Prelude.{◌≡◌, ◌+◌, ◌*◌, ◌%◌, ◌≤◌, ◌==◌, length};
-ghost use Rattle.uicc_select.specs.Target.{id_in, ids_in, is_way, name_in, path_in, target_of};
+ghost use Rattle.uicc_select.specs.Target.{id_in, ids_in, is_selection_method, name_in, path_in, target_of};
 
 use file_rows::{Name, Path};
 
@@ -20,9 +20,9 @@ pub enum Target {
     FromCurrent(Path),
 }
 
-// Whether this P1 is one of a SELECT.
-pub(crate) fn is_way(p1: u8) -> bool
-    ensures { result ≡ is_way p1 }
+// Whether this P1 is one of the selection methods.
+pub(crate) fn is_selection_method(p1: u8) -> bool
+    ensures { result ≡ is_selection_method p1 }
 {
     matches!(p1, 0x00 | 0x01 | 0x03 | 0x04 | 0x08 | 0x09)
 }

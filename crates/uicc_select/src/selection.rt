@@ -1,20 +1,23 @@
-ghost use Rattle.std.specs.Prelude.{◌≡◌, ◌≤◌, [], length, Some, None, MatchResult, IfSome, option_and_then, option_map, unwrap_or};
+ghost use Rattle.std.specs.Prelude.{◌≡◌, ◌≤◌, ℕ, length, Some, None, MatchResult, IfSome, option_and_then};
 ghost use Rattle.apdu_codec.specs.Command.{apdu_of};
-ghost use Rattle.uicc_channels.specs.Answer.{status as status_alone};
-ghost use Rattle.uicc_channels.specs.Delivery.{answered};
+ghost use Rattle.uicc_channels.specs.CommandOutcome.{outcome_of};
 ghost use Rattle.uicc_channels.specs.CommandRow.{Follows, decided};
-ghost use Rattle.uicc_channels.specs.Session.{IsOpen, Suits};
+ghost use Rattle.uicc_channels.specs.Delivery.{le_refusal};
+ghost use Rattle.uicc_channels.specs.Session.{IsOpen, Suits, with_channel};
+ghost use Rattle.uicc_channels.specs.SessionChange.{session_after};
+ghost use Rattle.uicc_channels.specs.declared.session.Session.{Session};
 ghost use Rattle.uicc_tree.specs.Change.{AreRows};
 ghost use Rattle.uicc_tree.specs.Files.{IsLive, file_of, rows_of};
-ghost use Rattle.uicc_select.specs.Status.{chan_of};
-ghost use Rattle.uicc_select.specs.Select.{application_after, are_of_select, in_place_of_ok, le_refusal, left_waiting, names_isdr, parameters_for, select_row, selected, selecting, selecting_isdr, standing_at};
+ghost use Rattle.uicc_select.specs.Select.{answered_if_some, application_after, are_of_select, names_isdr, parameters_for, select_row, selected_status, selecting, selecting_isdr, standing_at, waiting_if_some};
 
-use crate::find::{find, parent_of};
-use crate::naming::{Target, is_way, target_of};
+use crate::find::find;
+use crate::naming::{Target, is_selection_method, target_of};
 use crate::parameters::{Parameters, parameters_of};
-use apdu_codec::{Answer, Command, Sw};
-use file_rows::{FileHead, Life, Path, PinRow};
-use uicc_channels::{Chan, Decided, Pending, Session, conclude, delivery_answer, require};
+use apdu_codec::{Answer, Command, Sw, class_fits};
+use file_rows::{FileHead, Life, Path, PinRow, parent_of};
+use uicc_channels::{
+    Chan, Decided, Pending, Session, SessionChange, conclude, delivery_answer, require, require_le,
+};
 use uicc_tree::Tree;
 
 /// The AID of the ISD-R (GSMA SGP.02, SGP.22).
@@ -29,7 +32,7 @@ const WITH_PARAMETERS: u8 = 0x04;
 fn are_of_select(p1: u8, p2: u8) -> bool
     ensures { result ≡ are_of_select p1 p2 }
 {
-    is_way(p1) && matches!(p2, 0x00 | WITH_PARAMETERS | 0x0C)
+    is_selection_method(p1) && matches!(p2, 0x00 | WITH_PARAMETERS | 0x0C)
 }
 
 // Whether the ISD-R is named, by its whole AID.
@@ -44,7 +47,7 @@ fn names_isdr(target: &Target) -> bool
 
 // How a file that is selected answers.
 fn selected_status(life: Life) -> Sw
-    ensures { result ≡ selected life }
+    ensures { result ≡ selected_status life }
 {
     match life {
         Life::Active => Sw::OK,
@@ -66,9 +69,9 @@ fn application_after(app: &Option<Path>, target: &Target, path: &Path) -> Option
     }
 }
 
-// Where a channel stands once a file is selected.
-fn standing_at(chan: &Chan, target: &Target, head: &FileHead, pending: Pending) -> Chan
-    ensures { result ≡ standing_at chan.now target.now head.now pending }
+// Where a channel stands once a file is selected, with nothing waiting.
+fn standing_at(chan: &Chan, target: &Target, head: &FileHead) -> Chan
+    ensures { result ≡ standing_at chan.now target.now head.now }
 {
     let app = application_after(&chan.app, target, &head.path);
     if head.kind.holds_files() {
@@ -78,7 +81,7 @@ fn standing_at(chan: &Chan, target: &Target, head: &FileHead, pending: Pending) 
             dir: head.path.copy(),
             file: None,
             pointer: 0,
-            pending,
+            pending: Pending::new(),
         }
     } else {
         Chan {
@@ -87,58 +90,8 @@ fn standing_at(chan: &Chan, target: &Target, head: &FileHead, pending: Pending) 
             dir: parent_of(&head.path).unwrap_or(Path::new()),
             file: Some(head.path.copy()),
             pointer: 0,
-            pending,
+            pending: Pending::new(),
         }
-    }
-}
-
-// Refuses an Le with which control parameters aren't given.
-fn require_le(le: Option<u16>, parameters: &Parameters) -> Result<(), Sw>
-    ensures { MatchResult result (λ _. le_refusal le parameters.now ≡ None) (λ sw. le_refusal le parameters.now ≡ Some sw) }
-{
-    match le {
-        None => Ok(()),
-        Some(le) => {
-            let count = parameters.len() as u16;
-            require(le == 256 || le == count, Sw::wrong_le(count))
-        }
-    }
-}
-
-// The answer to a SELECT of a file with this life cycle status.
-fn answer_selected(
-    life: Life,
-    le: Option<u16>,
-    parameters: &Option<Parameters>,
-) -> Result<Answer, Sw>
-    requires { IfSome parameters.now (λ bytes. 1 ≤ length bytes) }
-    ensures { MatchResult result
-        (λ answer. (option_and_then (le_refusal le) parameters.now ≡ None)
-        × (answer ≡ in_place_of_ok (selected life) (unwrap_or (option_map (answered le) parameters.now) (status_alone Sw.OK))))
-        (λ sw. option_and_then (le_refusal le) parameters.now ≡ Some sw) }
-{
-    let Some(bytes) = parameters else {
-        return Ok(Answer::status(selected_status(life)));
-    };
-    require_le(le, bytes)?;
-    let answer = delivery_answer(le, bytes.as_slice());
-    if answer.sw == Sw::OK {
-        Ok(Answer {
-            body: answer.body,
-            sw: selected_status(life),
-        })
-    } else {
-        Ok(answer)
-    }
-}
-
-// What waits on the channel once control parameters were answered.
-fn left_waiting(le: Option<u16>, parameters: &Option<Parameters>) -> Pending
-    ensures { result ≡ left_waiting le (unwrap_or parameters.now []) }
-{
-    match (le, parameters) {
-        (None, Some(bytes)) => Pending::from_slice(bytes.as_slice()),
-        _ => Pending::new(),
     }
 }
 
@@ -155,15 +108,37 @@ fn parameters_for(tree: &Tree, pins: &[PinRow], node: u32, p2: u8) -> Option<Par
     Some(parameters_of(tree, pins, node))
 }
 
-// Selects the ISD-R.
-fn select_isdr(session: &Session, command: &Command) -> Decided
-    requires { IsOpen session.now command.now.channel }
-    ensures { result ≡ selecting_isdr session.now (apdu_of command.now) }
+// Refuses an Le with which control parameters aren't given.
+fn require_le_for(le: Option<u16>, parameters: &Option<Parameters>) -> Result<(), Sw>
+    requires { IfSome parameters.now (λ bytes. 1 ≤ length bytes) }
+    ensures { MatchResult result (λ _. option_and_then (le_refusal le) parameters.now ≡ None)
+        (λ sw. option_and_then (le_refusal le) parameters.now ≡ Some sw) }
 {
-    Decided {
-        answer: Answer::status(Sw::OK),
-        session: session.with_channel(command.channel, Some(Chan::at_isdr())),
-        change: None,
+    match parameters {
+        None => Ok(()),
+        Some(bytes) => require_le(le, bytes.as_slice()),
+    }
+}
+
+// The answer to a SELECT with these control parameters, with the status word for success.
+fn answer_selected(success: Sw, le: Option<u16>, parameters: &Option<Parameters>) -> Answer
+    requires { IfSome parameters.now (λ bytes. 1 ≤ length bytes) }
+    ensures { result ≡ answered_if_some success le parameters.now }
+{
+    match parameters {
+        None => Answer::status(success),
+        Some(bytes) => delivery_answer(success, le, bytes.as_slice()),
+    }
+}
+
+// With no Le the control parameters wait on the channel.
+fn leave_waiting(chan: &mut Chan, le: Option<u16>, parameters: &Option<Parameters>)
+    ensures { (session : Session) (number : ℕ) → IsOpen session number
+        → with_channel session number (Some chan.new)
+        ≡ waiting_if_some le (with_channel session number (Some chan.old)) number parameters.now }
+{
+    if let (None, Some(bytes)) = (le, parameters) {
+        chan.pending = Pending::from_slice(bytes.as_slice());
     }
 }
 
@@ -174,25 +149,30 @@ fn select_file(
     target: &Target,
     head: &FileHead,
     parameters: &Option<Parameters>,
-) -> Result<Decided, Sw>
+) -> Decided
     requires open { IsOpen session.now command.now.channel }
     requires some { IfSome parameters.now (λ bytes. 1 ≤ length bytes) }
-    ensures { MatchResult result
-        (λ done. (option_and_then (le_refusal command.now.le) parameters.now ≡ None)
-        × (done ≡ selecting session.now (apdu_of command.now) (chan_of session.now (apdu_of command.now)) target.now parameters.now head.now))
-        (λ sw. option_and_then (le_refusal command.now.le) parameters.now ≡ Some sw) }
+    ensures { outcome_of session.now result
+        ≡ selecting session.now (apdu_of command.now) target.now parameters.now head.now }
 {
-    let Some(chan) = session.channel_at(command.channel) else {
-        unreachable!()
-    };
-    let answer = answer_selected(head.life, command.le, parameters)?;
-    let pending = left_waiting(command.le, parameters);
-    let after = standing_at(chan, target, head, pending);
-    Ok(Decided {
-        answer,
-        session: session.with_channel(command.channel, Some(after)),
+    let mut after = standing_at(session.open_channel(command.channel), target, head);
+    leave_waiting(&mut after, command.le, parameters);
+    Decided {
+        answer: answer_selected(selected_status(head.life), command.le, parameters),
+        session: SessionChange::own(command.channel, Some(after)),
         change: None,
-    })
+    }
+}
+
+// Selects the ISD-R.
+fn select_isdr(command: &Command) -> Decided
+    ensures { (session : Session) → outcome_of session result ≡ selecting_isdr session (apdu_of command.now) }
+{
+    Decided {
+        answer: Answer::status(Sw::OK),
+        session: SessionChange::own(command.channel, Some(Chan::at_isdr())),
+        change: None,
+    }
 }
 
 /// SELECT (ETSI TS 102 221): by file identifier, of a directory in the current one, of the parent, by name, by path from
@@ -213,13 +193,16 @@ pub fn select(
 ) -> Decided
     requires files { AreRows (rows_of tree.now) }
     requires open { IsOpen session.now command.now.channel }
-    ensures value { result ≡ decided session.now (select_row (rows_of tree.now) pins.now session.now isdr_here (apdu_of command.now)) }
-    ensures suits { Suits session.now (rows_of tree.now) → Suits result.session (rows_of tree.now) }
+    ensures value { outcome_of session.now result
+        ≡ decided session.now (select_row (rows_of tree.now) pins.now session.now isdr_here (apdu_of command.now)) }
+    ensures suits { Suits session.now (rows_of tree.now)
+        → Suits (session_after session.now result.session) (rows_of tree.now) }
+    ensures content { result.change ≡ None }
 {
-    conclude(session, choose(tree, pins, session, isdr_here, command))
+    conclude(try_select(tree, pins, session, isdr_here, command))
 }
 
-fn choose(
+fn try_select(
     tree: &Tree,
     pins: &[PinRow],
     session: &Session,
@@ -228,22 +211,22 @@ fn choose(
 ) -> Result<Decided, Sw>
     requires files { AreRows (rows_of tree.now) }
     requires open { IsOpen session.now command.now.channel }
-    ensures { Follows (select_row (rows_of tree.now) pins.now session.now isdr_here (apdu_of command.now)) result }
+    ensures { Follows session.now
+        (select_row (rows_of tree.now) pins.now session.now isdr_here (apdu_of command.now)) result }
 {
-    require(command.class.is_standard(), Sw::WRONG_CLASS)?;
+    require(class_fits(command.ins, command.class), Sw::WRONG_CLASS)?;
     require(are_of_select(command.p1, command.p2), Sw::WRONG_P1_P2)?;
     let Some(target) = target_of(command.p1, command.body) else {
         return Err(Sw::WRONG_LENGTH);
     };
     if isdr_here && names_isdr(&target) {
-        return Ok(select_isdr(session, command));
+        return Ok(select_isdr(command));
     }
-    let Some(chan) = session.channel_at(command.channel) else {
-        unreachable!()
-    };
+    let chan = session.open_channel(command.channel);
     let Some(node) = find(tree, chan, &target) else {
         return Err(Sw::FILE_NOT_FOUND);
     };
     let parameters = parameters_for(tree, pins, node, command.p2);
-    select_file(session, command, &target, tree.head(node), &parameters)
+    require_le_for(command.le, &parameters)?;
+    Ok(select_file(session, command, &target, tree.head(node), &parameters))
 }

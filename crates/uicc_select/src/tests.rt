@@ -7,19 +7,19 @@ ghost use Rattle.uicc_tree.specs.Files.{rows_of};
 mod sample;
 
 use super::*;
-use apdu_codec::{Class, Command, Sw};
+use apdu_codec::{Answer, Class, Command, Sw, class_fits, ins};
 use sample::{AID, blank_tree, pin, sample_tree};
 use std::test::Fail;
-use uicc_channels::{Decided, Session, fresh};
+use uicc_channels::{Session, fresh};
 use uicc_tree::Tree;
 
-// A command on channel 0.
+// A command on channel 0, with the class of its instruction.
 fn command(ins: u8, p1: u8, p2: u8, body: &[u8], le: Option<u16>) -> Command<'_>
     ensures { result.channel ≡ 0 }
 {
     Command {
         channel: 0,
-        class: if ins == 0xA4 {
+        class: if class_fits(ins, Class::Standard) {
             Class::Standard
         } else {
             Class::Special
@@ -32,31 +32,35 @@ fn command(ins: u8, p1: u8, p2: u8, body: &[u8], le: Option<u16>) -> Command<'_>
     }
 }
 
-// What comes of a SELECT on an open channel of a card with two PINs.
+// The answer to a SELECT on an open channel of a card with two PINs. The session changes as it says.
 fn select_on(
     tree: &Tree,
-    session: &Session,
+    session: &mut Session,
     isdr_here: bool,
     command: &Command,
-) -> Result<Decided, Fail>
+) -> Result<Answer, Fail>
     requires { AreRows (rows_of tree.now) }
 {
     session
         .channel_at(command.channel)
         .ok_or("an open channel")?;
     let pins = [pin(1, 0x01), pin(2, 0x0A)];
-    Ok(select(tree, &pins, session, isdr_here, command))
+    let decided = select(tree, &pins, session, isdr_here, command);
+    session.apply(&decided.session);
+    Ok(decided.answer)
 }
 
-// What comes of a STATUS there.
-fn status_on(tree: &Tree, session: &Session, command: &Command) -> Result<Decided, Fail>
+// The answer to a STATUS there.
+fn status_on(tree: &Tree, session: &mut Session, command: &Command) -> Result<Answer, Fail>
     requires { AreRows (rows_of tree.now) }
 {
     session
         .channel_at(command.channel)
         .ok_or("an open channel")?;
     let pins = [pin(1, 0x01), pin(2, 0x0A)];
-    Ok(status(tree, &pins, session, command))
+    let decided = status(tree, &pins, session, command);
+    session.apply(&decided.session);
+    Ok(decided.answer)
 }
 
 // A SELECT by its P1 and body, its status word, and the current directory and EF after it; no EF has the empty path.
@@ -204,10 +208,9 @@ fn first_astray(tree: &Tree, steps: &[Step]) -> Result<Option<usize>, Fail>
 {
     let mut session = fresh(false, None);
     for (place, step) in steps.iter().enumerate() {
-        let select = command(0xA4, step.p1, 0x0C, step.body, None);
-        let decided = select_on(tree, &session, false, &select)?;
-        session = decided.session;
-        if decided.answer.sw != Sw(step.sw) || !stands_at(&session, step.dir, step.file) {
+        let select = command(ins::SELECT, step.p1, 0x0C, step.body, None);
+        let answer = select_on(tree, &mut session, false, &select)?;
+        if answer.sw != Sw(step.sw) || !stands_at(&session, step.dir, step.file) {
             return Ok(Some(place));
         }
     }
@@ -225,8 +228,8 @@ fn the_first_of_the_places_is_found(rt: HostRuntime) -> Result<(), Fail> {
 
 #[test]
 fn a_blank_card_has_nothing_but_the_isdr(rt: HostRuntime) -> Result<(), Fail> {
-    let tree = blank_tree(rt.alloc())?;
-    let session = fresh(false, None);
+    let tree = blank_tree(rt.alloc());
+    let mut session = fresh(false, None);
     let selects: [(u8, &[u8]); 9] = [
         (0x00, &[0x3F, 0x00]),
         (0x00, &[0x7F, 0xFF]),
@@ -239,24 +242,21 @@ fn a_blank_card_has_nothing_but_the_isdr(rt: HostRuntime) -> Result<(), Fail> {
         (0x09, &[0x7F, 0x10]),
     ];
     for (p1, body) in &selects {
-        let decided = select_on(
-            &tree,
-            &session,
-            false,
-            &command(0xA4, *p1, 0x04, body, Some(256)),
-        )?;
-        assert_eq!(rt; decided.answer.sw, Sw(0x6A82), "{p1} {body:?}");
-        assert!(rt; decided.session == session);
+        let select = command(ins::SELECT, *p1, 0x04, body, Some(256));
+        let answer = select_on(&tree, &mut session, false, &select)?;
+        assert_eq!(rt; answer.sw, Sw(0x6A82), "{p1} {body:?}");
+        assert!(rt; session == fresh(false, None));
     }
-    let isdr = command(0xA4, 0x04, 0x04, &ISDR_AID, Some(256));
-    let decided = select_on(&tree, &session, true, &isdr)?;
-    assert_eq!(rt; decided.answer.sw, Sw(0x9000));
-    assert_eq!(rt; decided.answer.body.len(), 0);
-    assert!(rt; decided.session == fresh(false, Some(0)));
     for (p2, sw) in [(0x00, 0x6A82), (0x01, 0x6A88), (0x0C, 0x9000)] {
-        let told = status_on(&tree, &session, &command(0xF2, 0x00, p2, &[], Some(256)))?;
-        assert_eq!(rt; told.answer.sw, Sw(sw), "STATUS with P2 {p2}");
+        let command = command(ins::STATUS, 0x00, p2, &[], Some(256));
+        let answer = status_on(&tree, &mut session, &command)?;
+        assert_eq!(rt; answer.sw, Sw(sw), "STATUS with P2 {p2}");
     }
+    let isdr = command(ins::SELECT, 0x04, 0x04, &ISDR_AID, Some(256));
+    let answer = select_on(&tree, &mut session, true, &isdr)?;
+    assert_eq!(rt; answer.sw, Sw(0x9000));
+    assert!(rt; answer.body.is_empty());
+    assert!(rt; session == fresh(false, Some(0)));
     Ok(())
 }
 
@@ -282,9 +282,9 @@ const APPLICATION_PARAMETERS: [u8; 52] = [
 ];
 
 #[test]
-fn a_selected_file_tells_its_control_parameters(rt: HostRuntime) -> Result<(), Fail> {
+fn a_selected_file_has_its_control_parameters(rt: HostRuntime) -> Result<(), Fail> {
     let tree = sample_tree(rt.alloc())?;
-    let session = fresh(false, None);
+    let mut session = fresh(false, None);
     let files: [(u8, &[u8], &[u8]); 3] = [
         (0x00, &[0x3F, 0x00], &MASTER_PARAMETERS),
         (0x00, &[0x2F, 0xE2], &FILE_PARAMETERS),
@@ -292,10 +292,10 @@ fn a_selected_file_tells_its_control_parameters(rt: HostRuntime) -> Result<(), F
     ];
     for (p1, body, parameters) in &files {
         for le in [256, parameters.len() as u16] {
-            let select = command(0xA4, *p1, 0x04, body, Some(le));
-            let given = select_on(&tree, &session, false, &select)?;
-            assert_eq!(rt; given.answer.sw, Sw(0x9000));
-            assert_eq!(rt; given.answer.body.as_slice(), *parameters);
+            let select = command(ins::SELECT, *p1, 0x04, body, Some(le));
+            let answer = select_on(&tree, &mut session, false, &select)?;
+            assert_eq!(rt; answer.sw, Sw(0x9000));
+            assert_eq!(rt; answer.body.as_slice(), *parameters);
         }
     }
     Ok(())
@@ -304,29 +304,33 @@ fn a_selected_file_tells_its_control_parameters(rt: HostRuntime) -> Result<(), F
 #[test]
 fn control_parameters_are_delivered_by_le(rt: HostRuntime) -> Result<(), Fail> {
     let tree = sample_tree(rt.alloc())?;
-    let session = fresh(false, None);
-    for (le, sw, given) in [
+    let mut session = fresh(false, None);
+    let rows = [
         (None, 0x6122, 0),
         (Some(256), 0x9000, 34),
         (Some(34), 0x9000, 34),
         (Some(33), 0x6C22, 0),
         (Some(35), 0x6C22, 0),
-    ] {
-        let select = command(0xA4, 0x00, 0x04, &[0x3F, 0x00], le);
-        let selected = select_on(&tree, &session, false, &select)?;
-        let told = status_on(&tree, &session, &command(0xF2, 0x00, 0x00, &[], le))?;
-        for answer in [&selected.answer, &told.answer] {
+    ];
+    for (le, sw, count) in rows {
+        let select = command(ins::SELECT, 0x00, 0x04, &[0x3F, 0x00], le);
+        let status = command(ins::STATUS, 0x00, 0x00, &[], le);
+        let answers = [
+            select_on(&tree, &mut session, false, &select)?,
+            status_on(&tree, &mut session, &status)?,
+        ];
+        for answer in &answers {
             assert_eq!(rt; answer.sw, Sw(sw), "Le {le:?}");
-            assert_eq!(rt; answer.body.len(), given, "Le {le:?}");
+            assert_eq!(rt; answer.body.len(), count, "Le {le:?}");
         }
     }
     Ok(())
 }
 
 #[test]
-fn a_deactivated_file_tells_its_state_with_its_parameters(rt: HostRuntime) -> Result<(), Fail> {
+fn a_deactivated_file_has_its_warning_with_its_parameters(rt: HostRuntime) -> Result<(), Fail> {
     let tree = sample_tree(rt.alloc())?;
-    let session = fresh(false, None);
+    let mut session = fresh(false, None);
     let rows = [
         (None, 0x6116),
         (Some(256), 0x6283),
@@ -334,9 +338,9 @@ fn a_deactivated_file_tells_its_state_with_its_parameters(rt: HostRuntime) -> Re
         (Some(1), 0x6C16),
     ];
     for (le, sw) in rows {
-        let select = command(0xA4, 0x08, 0x04, &[0x7F, 0x10, 0x6F, 0x3A], le);
-        let decided = select_on(&tree, &session, false, &select)?;
-        assert_eq!(rt; decided.answer.sw, Sw(sw), "Le {le:?}");
+        let select = command(ins::SELECT, 0x08, 0x04, &[0x7F, 0x10, 0x6F, 0x3A], le);
+        let answer = select_on(&tree, &mut session, false, &select)?;
+        assert_eq!(rt; answer.sw, Sw(sw), "Le {le:?}");
     }
     Ok(())
 }
@@ -352,45 +356,47 @@ fn waits(session: &Session, bytes: &[u8]) -> bool {
 #[test]
 fn what_waits_lasts_until_a_selection(rt: HostRuntime) -> Result<(), Fail> {
     let tree = sample_tree(rt.alloc())?;
-    let select = command(0xA4, 0x00, 0x04, &[0x3F, 0x00], None);
-    let selected = select_on(&tree, &fresh(false, None), false, &select)?;
-    assert!(rt; waits(&selected.session, &MASTER_PARAMETERS));
-    let quiet = command(0xF2, 0x00, 0x0C, &[], None);
-    let told = status_on(&tree, &selected.session, &quiet)?;
-    assert!(rt; waits(&told.session, &MASTER_PARAMETERS));
-    let absent = command(0xA4, 0x00, 0x0C, &[0x2F, 0xFF], None);
-    let refused = select_on(&tree, &told.session, false, &absent)?;
-    assert!(rt; waits(&refused.session, &MASTER_PARAMETERS));
-    let file = command(0xA4, 0x00, 0x0C, &[0x2F, 0xE2], None);
-    let after = select_on(&tree, &refused.session, false, &file)?;
-    assert!(rt; waits(&after.session, &[]));
+    let mut session = fresh(false, None);
+    let select = command(ins::SELECT, 0x00, 0x04, &[0x3F, 0x00], None);
+    let _waiting = select_on(&tree, &mut session, false, &select)?;
+    assert!(rt; waits(&session, &MASTER_PARAMETERS));
+    let quiet = command(ins::STATUS, 0x00, 0x0C, &[], None);
+    let _bare = status_on(&tree, &mut session, &quiet)?;
+    assert!(rt; waits(&session, &MASTER_PARAMETERS));
+    let absent = command(ins::SELECT, 0x00, 0x0C, &[0x2F, 0xFF], None);
+    let _refused = select_on(&tree, &mut session, false, &absent)?;
+    assert!(rt; waits(&session, &MASTER_PARAMETERS));
+    let file = command(ins::SELECT, 0x00, 0x0C, &[0x2F, 0xE2], None);
+    let _selected = select_on(&tree, &mut session, false, &file)?;
+    assert!(rt; waits(&session, &[]));
     Ok(())
 }
 
 #[test]
-fn status_tells_the_directory_and_the_name(rt: HostRuntime) -> Result<(), Fail> {
+fn status_has_the_parameters_of_the_directory_and_the_name(rt: HostRuntime) -> Result<(), Fail> {
     let tree = sample_tree(rt.alloc())?;
-    let select = command(0xA4, 0x04, 0x00, &AID, None);
-    let at_app = select_on(&tree, &fresh(false, None), false, &select)?.session;
-    let directory = status_on(&tree, &at_app, &command(0xF2, 0x00, 0x00, &[], Some(256)))?;
-    assert_eq!(rt;
-        directory.answer.body.as_slice(),
-        APPLICATION_PARAMETERS.as_slice()
-    );
-    let name = status_on(&tree, &at_app, &command(0xF2, 0x01, 0x01, &[], Some(18)))?;
-    assert_eq!(rt; name.answer.sw, Sw(0x9000));
-    assert_eq!(rt;
-        name.answer.body.as_slice(),
-        &APPLICATION_PARAMETERS[10..28]
-    );
-    assert!(rt; name.session == at_app);
+    let mut session = fresh(false, None);
+    let select = command(ins::SELECT, 0x04, 0x00, &AID, None);
+    let selected = select_on(&tree, &mut session, false, &select)?;
+    assert_eq!(rt; selected.sw, Sw(0x9000));
+    let rows: [(u8, u8, u16, &[u8]); 2] = [
+        (0x00, 0x00, 256, &APPLICATION_PARAMETERS),
+        (0x01, 0x01, 18, &APPLICATION_PARAMETERS[10..28]),
+    ];
+    for (p1, p2, le, body) in &rows {
+        let status = command(ins::STATUS, *p1, *p2, &[], Some(*le));
+        let answer = status_on(&tree, &mut session, &status)?;
+        assert_eq!(rt; answer.sw, Sw(0x9000));
+        assert_eq!(rt; answer.body.as_slice(), *body);
+        assert!(rt; stands_at(&session, APP, &[]));
+    }
     Ok(())
 }
 
 #[test]
 fn a_command_of_another_form_is_refused(rt: HostRuntime) -> Result<(), Fail> {
     let tree = sample_tree(rt.alloc())?;
-    let session = fresh(false, None);
+    let mut session = fresh(false, None);
     let selects: [(u8, u8, &[u8], u16); 10] = [
         (0x02, 0x0C, &[0x2F, 0xE2], 0x6A86),
         (0x00, 0x01, &[0x2F, 0xE2], 0x6A86),
@@ -404,22 +410,35 @@ fn a_command_of_another_form_is_refused(rt: HostRuntime) -> Result<(), Fail> {
         (0x09, 0x0C, &[0x7F; 10], 0x6700),
     ];
     for (p1, p2, body, sw) in &selects {
-        let decided = select_on(&tree, &session, false, &command(0xA4, *p1, *p2, body, None))?;
-        assert_eq!(rt; decided.answer.sw, Sw(*sw), "{p1} {p2} {body:?}");
+        let select = command(ins::SELECT, *p1, *p2, body, None);
+        let answer = select_on(&tree, &mut session, false, &select)?;
+        assert_eq!(rt; answer.sw, Sw(*sw), "{p1} {p2} {body:?}");
     }
-    let tells: [(u8, u8, &[u8], u16); 3] = [
+    let statuses: [(u8, u8, &[u8], u16); 3] = [
         (0x03, 0x0C, &[], 0x6A86),
         (0x00, 0x02, &[], 0x6A86),
         (0x00, 0x0C, &[0x00], 0x6700),
     ];
-    for (p1, p2, body, sw) in &tells {
-        let told = status_on(&tree, &session, &command(0xF2, *p1, *p2, body, None))?;
-        assert_eq!(rt; told.answer.sw, Sw(*sw), "{p1} {p2} {body:?}");
+    for (p1, p2, body, sw) in &statuses {
+        let status = command(ins::STATUS, *p1, *p2, body, None);
+        let answer = status_on(&tree, &mut session, &status)?;
+        assert_eq!(rt; answer.sw, Sw(*sw), "{p1} {p2} {body:?}");
     }
     Ok(())
 }
 
 #[test]
-fn the_law_of_sessions_is_callable() {
-    sessions_suit_after_selection();
+fn a_command_of_another_class_is_refused(rt: HostRuntime) -> Result<(), Fail> {
+    let tree = sample_tree(rt.alloc())?;
+    let mut session = fresh(false, None);
+    let mut select = command(ins::SELECT, 0x00, 0x0C, &[0x2F, 0xE2], None);
+    select.class = Class::Special;
+    assert_eq!(rt;
+        select_on(&tree, &mut session, false, &select)?.sw,
+        Sw(0x6E00)
+    );
+    let mut status = command(ins::STATUS, 0x00, 0x0C, &[], None);
+    status.class = Class::Standard;
+    assert_eq!(rt; status_on(&tree, &mut session, &status)?.sw, Sw(0x6E00));
+    Ok(())
 }

@@ -1,12 +1,12 @@
 //! The card of the tests: three levels of files, in which identifiers stand at several places, and two PINs.
-ghost use Rattle.std.specs.Prelude.{◌≡◌, ◌≤◌, ◌<◌, ◌^◌, [], ◌∷◌, ◌++◌, length, IfOk, OnOk};
-ghost use Rattle.uicc_select.specs.Sample.{application_rows, file, home_rows, sample_rows, top_rows};
+ghost use Rattle.std.specs.Prelude.{◌≤◌, ◌<◌, ◌^◌, length, IfOk};
 ghost use Rattle.uicc_tree.specs.Change.{AreRows};
 ghost use Rattle.uicc_tree.specs.Files.{rows_of};
 
-use file_rows::{FileHead, FileRow, Kind, Life, Name, NoMemory, Path, PinRow, Rule};
+use file_rows::{Content, FileHead, FileRow, Kind, Life, Name, NoMemory, Path, PinRow, Rule};
 use plain_lists::LongList;
 use std::alloc::Global;
+use std::test::Fail;
 use uicc_tree::Tree;
 
 /// The name of the application.
@@ -27,7 +27,6 @@ fn push_file(
     requires path { length path.now ≤ 4 }
     requires name { length name.now ≤ 16 }
     requires body { length body.now < 2 ^ 16 }
-    ensures { OnOk result (rows.new.items ≡ rows.old.items ++ file path.now kind life sfi name.now body.now ∷ []) }
 {
     let bytes = Vec::from_slice(*rows.allocator(), body)?;
     rows.push(FileRow {
@@ -51,7 +50,6 @@ fn push_file(
 
 fn push_directory(rows: &mut Vec<FileRow>, path: &[u16]) -> Result<(), NoMemory>
     requires { length path.now ≤ 4 }
-    ensures { OnOk result (rows.new.items ≡ rows.old.items ++ file path.now Kind.Directory Life.Active 0 [] [] ∷ []) }
 {
     push_file(rows, path, Kind::Directory, Life::Active, 0, &[], &[])
 }
@@ -59,15 +57,12 @@ fn push_directory(rows: &mut Vec<FileRow>, path: &[u16]) -> Result<(), NoMemory>
 // Appends an EF of one byte.
 fn push_byte(rows: &mut Vec<FileRow>, path: &[u16], life: Life) -> Result<(), NoMemory>
     requires { length path.now ≤ 4 }
-    ensures { OnOk result (rows.new.items ≡ rows.old.items ++ file path.now Kind.Transparent life 0 [] (0 ∷ []) ∷ []) }
 {
     push_file(rows, path, Kind::Transparent, life, 0, &[], &[0])
 }
 
 // The MF and the files directly under it that are no directories.
-fn push_top(rows: &mut Vec<FileRow>) -> Result<(), NoMemory>
-    ensures { OnOk result (rows.new.items ≡ rows.old.items ++ top_rows) }
-{
+fn push_top(rows: &mut Vec<FileRow>) -> Result<(), NoMemory> {
     let ten = [0, 1, 2, 3, 4, 5, 6, 7, 8, 9];
     push_file(rows, &[], Kind::Master, Life::Active, 0, &[], &[])?;
     push_file(
@@ -81,9 +76,7 @@ fn push_top(rows: &mut Vec<FileRow>) -> Result<(), NoMemory>
     )
 }
 
-fn push_home(rows: &mut Vec<FileRow>) -> Result<(), NoMemory>
-    ensures { OnOk result (rows.new.items ≡ rows.old.items ++ home_rows) }
-{
+fn push_home(rows: &mut Vec<FileRow>) -> Result<(), NoMemory> {
     push_directory(rows, &[0x7F10])?;
     push_directory(rows, &[0x7F10, 0x7F10])?;
     push_directory(rows, &[0x7F10, 0x5F3A])?;
@@ -93,9 +86,7 @@ fn push_home(rows: &mut Vec<FileRow>) -> Result<(), NoMemory>
     push_byte(rows, &[0x7F10, 0x5F3A, 0x6F3B], Life::Terminated)
 }
 
-fn push_application(rows: &mut Vec<FileRow>) -> Result<(), NoMemory>
-    ensures { OnOk result (rows.new.items ≡ rows.old.items ++ application_rows) }
-{
+fn push_application(rows: &mut Vec<FileRow>) -> Result<(), NoMemory> {
     push_file(
         rows,
         &[0x7FD0],
@@ -109,28 +100,42 @@ fn push_application(rows: &mut Vec<FileRow>) -> Result<(), NoMemory>
     push_directory(rows, &[0x7FD0, 0x5F3A])
 }
 
-fn make_tree(alloc: Global) -> Result<Tree, NoMemory>
-    ensures { IfOk result (λ tree. rows_of tree ≡ sample_rows) }
-{
+// The content of the tests.
+fn sample_content(alloc: Global) -> Result<Content, NoMemory> {
     let mut rows = Vec::new(alloc);
     push_top(&mut rows)?;
     push_home(&mut rows)?;
     push_application(&mut rows)?;
-    Tree::make(alloc, rows.as_slice())
+    let pins = [pin(1, 0x01), pin(2, 0x0A)];
+    Ok(Content {
+        rows: LongList::from(rows),
+        pins: LongList::from(Vec::from_array(alloc, pins)?),
+    })
+}
+
+// The files of a content that a card may hold.
+fn tree_of(alloc: Global, content: &Content) -> Result<Tree, Fail>
+    ensures { IfOk result (λ tree. AreRows (rows_of tree)) }
+{
+    if !content.is_valid() {
+        return Err(Fail::from("no card may hold this content"));
+    }
+    Ok(Tree::make(alloc, content.rows.as_slice())?)
 }
 
 // The files of the tests.
-pub(super) fn sample_tree(alloc: Global) -> Result<Tree, NoMemory>
+pub(super) fn sample_tree(alloc: Global) -> Result<Tree, Fail>
     ensures { IfOk result (λ tree. AreRows (rows_of tree)) }
 {
-    make_tree(alloc)
+    let content = sample_content(alloc)?;
+    tree_of(alloc, &content)
 }
 
 // A card without files.
-pub(super) fn blank_tree(alloc: Global) -> Result<Tree, NoMemory>
-    ensures { IfOk result (λ tree. AreRows (rows_of tree)) }
+pub(super) fn blank_tree(alloc: Global) -> Tree
+    ensures { AreRows (rows_of result) }
 {
-    Tree::make(alloc, &[])
+    Tree::new(alloc)
 }
 
 // A PIN at home in the MF, enabled.

@@ -1,13 +1,26 @@
 use Rattle.std.proofs.Common.{sym, subst}
 use Rattle.apdu_codec.specs.Command.{apdu_of}
-use Rattle.uicc_channels.specs.declared.decided.Decided.{Decided}
-use Rattle.profile_card.proofs.StepLemmas.{MayFollow-decision}
-use Rattle.profile_card.specs.Card.{IsSound}
-use Rattle.profile_card.specs.CardState.{MayFollow, card_of}
+use Rattle.uicc_channels.specs.CommandOutcome.{CommandOutcome}
+use Rattle.apdu_codec.specs.declared.status.TheConstants.Sw.{CHANNEL_NOT_SUPPORTED, WRONG_INSTRUCTION}
+use Rattle.profile_card.proofs.FollowLemmas.{MayFollow-decision, MayFollow-refused}
+use Rattle.profile_card.specs.Card.{IsSound, MayFollow}
+use Rattle.profile_card.specs.CardState.{card_of}
 use Rattle.profile_card.proofs.card1.Card1.decide.Goals as goal
 
 pub returns-clause-may_follow : goal.returns-clause-may_follow
 returns-clause-may_follow c =
     let sound : IsSound (card_of c.args.self.now) = rw (← c.self.view_is) (record { content = c.self.invariant.0; session = c.self.invariant.1 }) in
-    subst (λ (decided : Decided). MayFollow (card_of c.args.self.now) decided) (sym c.answer.ensures)
+    subst (λ (outcome : CommandOutcome). MayFollow (card_of c.args.self.now) outcome) (sym c.answer.ensures)
     (MayFollow-decision (card_of c.args.self.now) sound (apdu_of c.args.command.now))
+
+pub returns-in_default-clause-may_follow : goal.returns-in_default-clause-may_follow
+returns-in_default-clause-may_follow c =
+    let sound : IsSound (card_of c.args.self.now) = rw (← c.self.view_is) (record { content = c.self.invariant.0; session = c.self.invariant.1 }) in
+    subst (λ (outcome : CommandOutcome). MayFollow (card_of c.args.self.now) outcome) (sym (c.refuse.ensures c.args.self.now.session))
+    (MayFollow-refused (card_of c.args.self.now) sound CHANNEL_NOT_SUPPORTED)
+
+pub returns-then-not-is_for_isdr-clause-may_follow : goal.returns-then-not-is_for_isdr-clause-may_follow
+returns-then-not-is_for_isdr-clause-may_follow c =
+    let sound : IsSound (card_of c.args.self.now) = rw (← c.self.view_is) (record { content = c.self.invariant.0; session = c.self.invariant.1 }) in
+    subst (λ (outcome : CommandOutcome). MayFollow (card_of c.args.self.now) outcome) (sym (c.refuse-then-not-is_for_isdr.ensures c.args.self.now.session))
+    (MayFollow-refused (card_of c.args.self.now) sound WRONG_INSTRUCTION)

@@ -1,16 +1,17 @@
 ghost use Rattle.std.specs.Prelude.{◌≡◌, ◌≤◌, ◌==◌, length, Some, None, MatchOption, IfSome};
 ghost use Rattle.apdu_codec.specs.Command.{apdu_of};
+ghost use Rattle.uicc_channels.specs.CommandOutcome.{outcome_of};
 ghost use Rattle.uicc_channels.specs.CommandRow.{Follows, decided};
 ghost use Rattle.uicc_channels.specs.Session.{IsOpen, Suits};
+ghost use Rattle.uicc_channels.specs.SessionChange.{session_after};
 ghost use Rattle.uicc_tree.specs.Change.{AreRows};
 ghost use Rattle.uicc_tree.specs.Files.{rows_of};
 ghost use Rattle.uicc_select.specs.Status.{are_of_status, name_object, name_of_application, parameters_of_directory, status_row};
 
-use crate::find::find_path;
 use crate::parameters::{Parameters, parameters_of};
-use apdu_codec::{Answer, AnswerBody, Command, Sw};
+use apdu_codec::{Answer, AnswerBody, Command, Sw, class_fits};
 use file_rows::{Name, PinRow};
-use uicc_channels::{Chan, Decided, Session, conclude, deliver, require};
+use uicc_channels::{Chan, Decided, Session, answer_alone, conclude, deliver, require};
 use uicc_tree::Tree;
 
 // Whether these P1 and P2 are those of a STATUS.
@@ -47,7 +48,7 @@ fn name_of_application(tree: &Tree, chan: &Chan) -> Option<AnswerBody>
     ensures some { IfSome result (λ name. 1 ≤ length name) }
     ensures most { IfSome result (λ name. length name ≤ 256) }
 {
-    let node = find_path(tree, &chan.app)?;
+    let node = tree.find_path(&chan.app)?;
     Some(name_object(&tree.head(node).name))
 }
 
@@ -60,23 +61,30 @@ fn name_of_application(tree: &Tree, chan: &Chan) -> Option<AnswerBody>
 pub fn status(tree: &Tree, pins: &[PinRow], session: &Session, command: &Command) -> Decided
     requires files { AreRows (rows_of tree.now) }
     requires open { IsOpen session.now command.now.channel }
-    ensures value { result ≡ decided session.now (status_row (rows_of tree.now) pins.now session.now (apdu_of command.now)) }
-    ensures suits { Suits session.now (rows_of tree.now) → Suits result.session (rows_of tree.now) }
+    ensures value { outcome_of session.now result
+        ≡ decided session.now (status_row (rows_of tree.now) pins.now session.now (apdu_of command.now)) }
+    ensures suits { Suits session.now (rows_of tree.now)
+        → Suits (session_after session.now result.session) (rows_of tree.now) }
+    ensures content { result.change ≡ None }
 {
-    conclude(session, tell(tree, pins, session, command))
+    conclude(try_status(tree, pins, session, command))
 }
 
-fn tell(tree: &Tree, pins: &[PinRow], session: &Session, command: &Command) -> Result<Decided, Sw>
+fn try_status(
+    tree: &Tree,
+    pins: &[PinRow],
+    session: &Session,
+    command: &Command,
+) -> Result<Decided, Sw>
     requires files { AreRows (rows_of tree.now) }
     requires open { IsOpen session.now command.now.channel }
-    ensures { Follows (status_row (rows_of tree.now) pins.now session.now (apdu_of command.now)) result }
+    ensures { Follows session.now
+        (status_row (rows_of tree.now) pins.now session.now (apdu_of command.now)) result }
 {
-    require(command.class.is_special(), Sw::WRONG_CLASS)?;
+    require(class_fits(command.ins, command.class), Sw::WRONG_CLASS)?;
     require(are_of_status(command.p1, command.p2), Sw::WRONG_P1_P2)?;
     require(command.body.is_empty(), Sw::WRONG_LENGTH)?;
-    let Some(chan) = session.channel_at(command.channel) else {
-        unreachable!()
-    };
+    let chan = session.open_channel(command.channel);
     match command.p2 {
         0x00 => {
             let Some(parameters) = parameters_of_directory(tree, pins, chan) else {
@@ -90,10 +98,6 @@ fn tell(tree: &Tree, pins: &[PinRow], session: &Session, command: &Command) -> R
             };
             Ok(deliver(session, command, name.as_slice()))
         }
-        _ => Ok(Decided {
-            answer: Answer::status(Sw::OK),
-            session: session.copy(),
-            change: None,
-        }),
+        _ => Ok(answer_alone(Answer::status(Sw::OK))),
     }
 }
