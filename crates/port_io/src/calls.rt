@@ -4,7 +4,7 @@ ghost use Rattle.port_io.specs.Calls.{planned, NextFails, after_call, after_faul
 
 use std::marker::Model;
 
-/// Counts calls and faults, and knows which calls are to fail.
+/// Counts calls and faults. The calls whose numbers are listed, from 1, fail.
 #[derive(Drop)]
 pub(crate) struct CallCount {
     fail: Vec<u64>,
@@ -31,7 +31,7 @@ impl CallCount {
         }
     }
 
-    /// Counts a call, with its fault if it is one of those that fail, and tells whether it is.
+    /// Counts a call, with its fault if it is one of those that fail, and returns whether it is.
     pub(crate) fn begin(&mut self) -> bool
         ensures fails { IsTrue result ↔ NextFails self.old }
         ensures after { self.new ≡ after_call self.old result }
@@ -45,6 +45,7 @@ impl CallCount {
         fails
     }
 
+    /// Counts a fault.
     pub(crate) fn fault(&mut self)
         ensures after { self.new ≡ after_fault self.old }
         ensures count { NeverFalls self.old.faults self.new.faults }
