@@ -6,7 +6,7 @@ use Rattle.hex.specs.Hex.{encode_upper}
 use Rattle.apdu_codec.specs.declared.answers.Answer.{Answer}
 use Rattle.profile_card.specs.Sample.{sample_card}
 use Rattle.profile_card.specs.Step.{Runs}
-use Rattle.card_run.specs.Script.{ScriptStatement}
+use Rattle.card_run.specs.Script.{IsScript, ScriptStatement}
 
 -- the one word `demo`
 abbrev pub IsDemo : List (String Global) → Type 0
@@ -32,6 +32,12 @@ demo_text answers = answer_lines 1 answers
 abbrev pub IsRun : List ScriptStatement → List Answer → Type 0
 IsRun statements answers = Runs sample_card (map (λ statement. statement.apdu) statements) answers
 
--- a front of the text was written, behind what was
-abbrev pub WritesFront : Option (List ℕ) → Option (List ℕ) → List ℕ → Type 0
-WritesFront before after text = (count : ℕ) × Appends before after (take count text)
+-- the text of the sample card's answers to a script
+abbrev pub IsAnswerText : List ℕ → List ℕ → Type 0
+IsAnswerText script text =
+    (statements : List ScriptStatement) × (answers : List Answer) × IsScript script statements
+    × IsRun statements answers × (text ≡ demo_text answers)
+
+-- a prefix of the text was written, behind what was
+abbrev pub WritesPrefix : Option (List ℕ) → Option (List ℕ) → List ℕ → Type 0
+WritesPrefix before after text = (count : ℕ) × Appends before after (take count text)

@@ -102,8 +102,10 @@ HasFirstFault text number TooMany =
     (statements : List ScriptStatement) × (line : List ℕ) × ReadsUpTo text number statements line
     × (length statements ≡ most_statements) × ((apdu : List ℕ) × IsStatement line apdu)
 
+-- it is a script, with some statements
+abbrev pub IsSomeScript : List ℕ → Type 0
+IsSomeScript text = (statements : List ScriptStatement) × IsScript text statements
+
 -- it is a script, or it has a first line at fault
 abbrev pub IsScriptOrFaulty : List ℕ → Type 0
-IsScriptOrFaulty text =
-    ((statements : List ScriptStatement) × IsScript text statements)
-    ⊎ ((number : ℕ) × (kind : ScriptKind) × HasFirstFault text number kind)
+IsScriptOrFaulty text = IsSomeScript text ⊎ ((number : ℕ) × (kind : ScriptKind) × HasFirstFault text number kind)
