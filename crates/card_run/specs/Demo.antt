@@ -4,6 +4,7 @@ use Rattle.std.specs.Io.KnownBytes.{Appends}
 use Rattle.std.specs.declared.alloc.Global.{Global}
 use Rattle.hex.specs.Hex.{encode_upper}
 use Rattle.apdu_codec.specs.declared.answers.Answer.{Answer}
+use Rattle.apdu_codec.specs.declared.status.Sw.{Sw}
 use Rattle.profile_card.specs.Sample.{sample_card}
 use Rattle.profile_card.specs.Step.{Runs}
 use Rattle.card_run.specs.Script.{IsScript, ScriptStatement}
@@ -12,13 +13,18 @@ use Rattle.card_run.specs.Script.{IsScript, ScriptStatement}
 abbrev pub IsDemo : List (String Global) → Type 0
 IsDemo words = map string_bytes words ≡ codes "demo" ∷ []
 
+-- a status word as it is sent
+abbrev pub word_bytes : Sw → List ℕ
+word_bytes sw = sw.0 / 256 ∷ sw.0 % 256 ∷ []
+
 -- an answer as it is sent: its body and its status word
 abbrev pub answer_bytes : Answer → List ℕ
-answer_bytes answer = answer.body ++ answer.sw.0 / 256 ∷ answer.sw.0 % 256 ∷ []
+answer_bytes answer = answer.body ++ word_bytes answer.sw
 
 -- the line of statement K at port 1: `1.K ANSWER`
 abbrev pub answer_line : ℕ → Answer → List ℕ
-answer_line number answer = codes "1." ++ decimal number ++ codes " " ++ encode_upper (answer_bytes answer) ++ codes "\n"
+answer_line number answer =
+    codes "1." ++ decimal number ++ codes " " ++ encode_upper (answer_bytes answer) ++ codes "\n"
 
 -- a line for each answer, the first of which has this number
 abbrev pub answer_lines : ℕ → List Answer → List ℕ

@@ -1,5 +1,5 @@
 //! The text of the answers.
-ghost use Rattle.std.specs.Prelude.{◌≡◌, ◌≤◌, ◌++◌, length, OnOk};
+ghost use Rattle.std.specs.Prelude.{◌≡◌, ◌≤◌, ◌++◌, codes, length, OnOk};
 ghost use Rattle.hex.specs.Hex.{encode_upper};
 ghost use Rattle.card_run.specs.Demo.{answer_line};
 
@@ -22,8 +22,21 @@ fn push_hex(text: &mut Vec<u8>, bytes: &[u8], room: &mut [u8; MAX_BODY_DIGITS]) 
     Ok(())
 }
 
+// Appends the two bytes of a status word in upper-case hex, and LF.
+fn push_end(text: &mut Vec<u8>, word: &[u8]) -> Result<(), AllocError>
+    requires { length word.now ≡ 2 }
+    ensures { OnOk result (text.new.items ≡ text.old.items ++ (encode_upper word.now ++ codes "\n")) }
+{
+    let mut end = *b"....\n";
+    let digits = &mut end[..4];
+    let _ = hex::encode_to_slice(word, digits);
+    digits.make_ascii_uppercase();
+    text.extend_from_slice(&end)?;
+    Ok(())
+}
+
 /// Appends the line `1.K ANSWER` of statement K, counted from 1: the answer's body and status word in upper-case hex.
-/// The digits are first put into `room`.
+/// The digits of the body are first put into `room`.
 pub fn push_answer(
     text: &mut Vec<u8>,
     number: usize,
@@ -38,7 +51,6 @@ pub fn push_answer(
     text.extend_from_slice(Buffer::new().format(number).as_bytes())?;
     text.extend_from_slice(b" ")?;
     push_hex(text, body, room)?;
-    push_hex(text, &sw.to_bytes(), room)?;
-    text.extend_from_slice(b"\n")?;
+    push_end(text, &sw.to_bytes())?;
     Ok(())
 }
