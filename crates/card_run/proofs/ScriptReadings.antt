@@ -164,10 +164,10 @@ read-from_reads text (Ok found) h statements script = inl (ap Ok (IsScript-same 
 read-from_reads text (Err (Bad number kind)) h statements script = absurd (not_both-fault text statements number kind script h)
 read-from_reads text (Err NoMemory) h statements script = inr refl
 
-pub told-from_reads : (text : List ℕ) (r : Result (List ScriptStatement) ScriptFault) → ReadsAs text r
+pub refused-from_reads : (text : List ℕ) (r : Result (List ScriptStatement) ScriptFault) → ReadsAs text r
     → (number : ℕ) (kind : ScriptKind) → HasFirstFault text number kind → (r ≡ Err (Bad number kind)) ⊎ (r ≡ Err NoMemory)
-told-from_reads text (Ok found) h number kind fault = absurd (not_both-fault text found number kind h fault)
-told-from_reads text (Err (Bad other another)) h number kind fault =
+refused-from_reads text (Ok found) h number kind fault = absurd (not_both-fault text found number kind h fault)
+refused-from_reads text (Err (Bad other another)) h number kind fault =
     let same = HasFirstFault-same text other number another kind h fault in
     inl (ap (λ (n : ℕ). Err (Bad n another)) same.0 ∙ ap (λ (k : ScriptKind). Err (Bad number k)) same.1)
-told-from_reads text (Err NoMemory) h number kind fault = inr refl
+refused-from_reads text (Err NoMemory) h number kind fault = inr refl

@@ -1,5 +1,6 @@
 -- What `demo` prints.
-use Rattle.std.specs.Prelude.{◌≡◌, ℕ, ◌+◌, ◌/◌, ◌%◌, Option, List, [], ◌∷◌, ◌++◌, map, take, codes, decimal, String, string_bytes}
+use Rattle.std.specs.Prelude.{◌≡◌, ℕ, ◌+◌, ◌/◌, ◌%◌, Option, List, [], ◌∷◌, ◌++◌, map, take, codes}
+use Rattle.std.specs.Prelude.{decimal, String, string_bytes}
 use Rattle.std.specs.Io.KnownBytes.{Appends}
 use Rattle.std.specs.declared.alloc.Global.{Global}
 use Rattle.hex.specs.Hex.{encode_upper}
@@ -29,7 +30,8 @@ answer_line number answer =
 -- a line for each answer, the first of which has this number
 abbrev pub answer_lines : ℕ → List Answer → List ℕ
 answer_lines number [] = []
-answer_lines number (answer ∷ answers) = answer_line number answer ++ answer_lines (number + 1) answers
+answer_lines number (answer ∷ answers) =
+    answer_line number answer ++ answer_lines (number + 1) answers
 
 abbrev pub demo_text : List Answer → List ℕ
 demo_text answers = answer_lines 1 answers

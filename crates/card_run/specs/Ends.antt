@@ -6,7 +6,8 @@ use Rattle.port_io.specs.Faults.{Rose}
 use Rattle.card_run.specs.Demo.{IsAnswerText, IsDemo}
 use Rattle.card_run.specs.Script.{HasFirstFault, IsSomeScript}
 use Rattle.card_run.specs.declared.status.Status.{Status}
-use Rattle.card_run.specs.declared.status.Status.TheVariants.{Done, Usage, Script, ReadFault, WriteFault, NoMemory}
+use Rattle.card_run.specs.declared.status.Status.TheVariants.{Done, Usage, Script, ReadFault}
+use Rattle.card_run.specs.declared.status.Status.TheVariants.{WriteFault, NoMemory}
 
 -- the number with which the process ends
 abbrev pub number_of : Status → ℕ
@@ -17,7 +18,8 @@ number_of ReadFault = 4
 number_of WriteFault = 5
 number_of NoMemory = 8
 
--- a source and a sink at a moment: the bytes left and the bytes written, where they are reported, and the faults so far
+-- a source and a sink at a moment: the bytes left and the bytes written, where they are reported,
+-- and the faults so far
 pub record Streams : Type 0 where
   pub left : Option (List ℕ)
   pub read_faults : ℕ
@@ -26,27 +28,35 @@ pub record Streams : Type 0 where
 
 abbrev pub streams : Option (List ℕ) → ℕ → Option (List ℕ) → ℕ → Streams
 streams left read_faults written write_faults =
-    record { left = left; read_faults = read_faults; written = written; write_faults = write_faults }
+    record {
+      left = left;
+      read_faults = read_faults;
+      written = written;
+      write_faults = write_faults;
+    }
 
 -- why a run of `demo` ends so; want of memory alone needs no cause
 abbrev pub HasRunCause : Streams → Streams → Status → Type 0
 HasRunCause before after Usage = ⊥
-HasRunCause before after (Script line kind) = IfSome before.left (λ text. HasFirstFault text line kind)
+HasRunCause before after (Script line kind) =
+    IfSome before.left (λ text. HasFirstFault text line kind)
 HasRunCause before after ReadFault = Rose before.read_faults after.read_faults
-HasRunCause before after WriteFault = IfSome before.left IsSomeScript × Rose before.write_faults after.write_faults
+HasRunCause before after WriteFault =
+    IfSome before.left IsSomeScript × Rose before.write_faults after.write_faults
 HasRunCause before after NoMemory = ⊤
 -- all was read, and the whole text of the answers was written
 HasRunCause before after Done =
     IsAtEnd after.left
-    × IfSome before.left (λ script. (text : List ℕ) × IsAnswerText script text × Appends before.written after.written text)
+    × IfSome before.left (λ script. (text : List ℕ)
+    × IsAnswerText script text × Appends before.written after.written text)
 
--- why the program ends so: Usage where the words are not `demo`, and any other status where they are
+-- why the program ends so: Usage where the words are not `demo`, any other status where they are
 abbrev pub HasCause : List (String Global) → Streams → Streams → Status → Type 0
 HasCause words before after Usage = ¬ IsDemo words
 HasCause words before after status = IsDemo words × HasRunCause before after status
 
--- how a text ends a run without faults: a script is done, any other is refused with its first fault, and memory may
--- run out
+-- how a text ends a run without faults: a script is done, any other text is refused with its first
+-- fault, and memory may run out
 abbrev pub IsEndOf : List ℕ → Status → Type 0
 IsEndOf text Done = IsSomeScript text
 IsEndOf text (Script line kind) = HasFirstFault text line kind
@@ -57,7 +67,8 @@ IsEndOf text WriteFault = ⊥
 
 -- what stays as it was: the source and the sink at Usage, and the sink where no script was read
 abbrev pub LeavesAlone : {S K : Type 0} → Option (List ℕ) → S → S → K → K → Status → Type 0
-LeavesAlone left source source_after sink sink_after Usage = (source_after ≡ source) × (sink_after ≡ sink)
+LeavesAlone left source source_after sink sink_after Usage =
+    (source_after ≡ source) × (sink_after ≡ sink)
 LeavesAlone left source source_after sink sink_after (Script line kind) = sink_after ≡ sink
 LeavesAlone left source source_after sink sink_after ReadFault = sink_after ≡ sink
 LeavesAlone left source source_after sink sink_after NoMemory =
@@ -67,7 +78,8 @@ LeavesAlone left source source_after sink sink_after Done = ⊤
 
 -- why no script was read from a source
 abbrev pub HasLoadCause : Option (List ℕ) → ℕ → ℕ → Status → Type 0
-HasLoadCause left before after (Script line kind) = IfSome left (λ text. HasFirstFault text line kind)
+HasLoadCause left before after (Script line kind) =
+    IfSome left (λ text. HasFirstFault text line kind)
 HasLoadCause left before after ReadFault = Rose before after
 HasLoadCause left before after NoMemory = ⊤
 HasLoadCause left before after Done = ⊥

@@ -1,6 +1,7 @@
 -- What the reader answers for a text, for a line and for parts of it.
 use Rattle.std.specs.Prelude.{◌≡◌, ℕ, ◌≤◌, ◌⊎◌, List, [], ◌∷◌, length, codes, Result, Ok, Err}
-use Rattle.card_run.specs.Script.{ScriptStatement, most_apdu_bytes, IsPassedOver, IsStatement, IsFaulty, SpellsHex, IsScript, HasFirstFault}
+use Rattle.card_run.specs.Script.{ScriptStatement, most_apdu_bytes, IsPassedOver, IsStatement}
+use Rattle.card_run.specs.Script.{IsFaulty, SpellsHex, IsScript, HasFirstFault}
 use Rattle.card_run.specs.declared.script.ScriptFault.{ScriptFault}
 use Rattle.card_run.specs.declared.script.ScriptFault.TheVariants.{Bad, NoMemory}
 use Rattle.card_run.specs.declared.script.lines.Line.{Line}

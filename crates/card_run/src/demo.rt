@@ -7,8 +7,10 @@ ghost use Rattle.port_io.specs.Faults.{FailsOnlyWhereRose, NeverFalls, Rose};
 ghost use Rattle.port_io.specs.Sink.{TakesPart};
 ghost use Rattle.profile_card.specs.CardState.{HasRoomFor, card_of, content_of};
 ghost use Rattle.profile_card.specs.Step.{Gives};
-ghost use Rattle.card_run.specs.Demo.{IsAnswerText, IsDemo, IsRun, WritesPrefix, answer_line, demo_text};
-ghost use Rattle.card_run.specs.Ends.{HasCause, HasLoadCause, HasWriteCause, IsEndOf, LeavesAlone, streams};
+ghost use Rattle.card_run.specs.Demo.{IsAnswerText, IsDemo, IsRun, WritesPrefix, answer_line};
+ghost use Rattle.card_run.specs.Demo.{demo_text};
+ghost use Rattle.card_run.specs.Ends.{HasCause, HasLoadCause, HasWriteCause, IsEndOf, LeavesAlone};
+ghost use Rattle.card_run.specs.Ends.{streams};
 ghost use Rattle.card_run.specs.Script.{IsScript};
 
 use crate::output::{MAX_BODY_DIGITS, push_answer};
@@ -39,8 +41,8 @@ fn reserve(card: &mut Card1, change: &Option<Change>) -> Result<(), NoMemory>
     }
 }
 
-// Appends the line of the card's answer to statement `number`, and carries out what the command comes to. Without
-// memory the card stays as it was.
+// Appends the line of the card's answer to statement `number`, and carries out what the command
+// comes to. Without memory the card stays as it was.
 fn reply(
     card: &mut Card1,
     number: usize,
@@ -48,7 +50,8 @@ fn reply(
     text: &mut Vec<u8>,
     room: &mut [u8; MAX_BODY_DIGITS],
 ) -> Result<(), NoMemory>
-    ensures given { OnOk result ((answer : Answer) × Gives (card_of card.old) bytes.now answer (card_of card.new)
+    ensures given { OnOk result ((answer : Answer)
+        × Gives (card_of card.old) bytes.now answer (card_of card.new)
         × (text.new.items ≡ text.old.items ++ answer_line number answer)) }
     ensures as_before { OnErr result (card_of card.new ≡ card_of card.old) }
 {
@@ -67,9 +70,11 @@ fn reply(
 
 // Reads the script that the source has.
 fn load<S: Source>(alloc: Global, source: &mut S) -> Result<Script, Status>
-    ensures script { IfOk result (λ script. IfSome (S.left source.old) (λ text. IsScript text script)) }
+    ensures script { IfOk result
+        (λ script. IfSome (S.left source.old) (λ text. IsScript text script)) }
     ensures end { OnOk result (IsAtEnd (S.left source.new)) }
-    ensures cause { IfErr result (HasLoadCause (S.left source.old) (S.faults source.old) (S.faults source.new)) }
+    ensures cause { IfErr result
+        (HasLoadCause (S.left source.old) (S.faults source.old) (S.faults source.new)) }
     ensures count { NeverFalls (S.faults source.old) (S.faults source.new) }
 {
     let text = match read_source(alloc, source, MAX_SCRIPT_BYTES) {
@@ -86,9 +91,11 @@ fn load<S: Source>(alloc: Global, source: &mut S) -> Result<Script, Status>
 
 // Writes what is gathered where that is a block.
 fn write_full_block<K: Sink>(out: &mut K, block: &mut Vec<u8>) -> Result<(), Failed>
-    ensures moved { OnOk result ((piece : List ℕ) × Appends (K.written out.old) (K.written out.new) piece
+    ensures moved { OnOk result ((piece : List ℕ)
+        × Appends (K.written out.old) (K.written out.new) piece
         × (block.old.items ≡ piece ++ block.new.items)) }
-    ensures prefix { OnErr result (TakesPart (K.written out.old) (K.written out.new) block.old.items) }
+    ensures prefix { OnErr result
+        (TakesPart (K.written out.old) (K.written out.new) block.old.items) }
     ensures cause { FailsOnlyWhereRose result (K.faults out.old) (K.faults out.new) }
     ensures count { NeverFalls (K.faults out.old) (K.faults out.new) }
 {
@@ -120,29 +127,33 @@ fn answer_all<K: Sink>(alloc: Global, script: &Script, out: &mut K) -> Result<()
     Ok(())
 }
 
-/// Does all that the program does: with the words `demo` it reads a script from the source, sends its commands to
-/// the sample card at port 1, and writes the answers, one a line.
+/// Does all that the program does: with the words `demo` it reads a script from the source, sends
+/// its commands to the sample card at port 1, and writes the answers, one a line.
 ///
-/// The script is read whole before anything is written. Memory is taken for a command only where its change needs it.
+/// The script is read whole before anything is written. Memory is taken for a command only where
+/// its change needs it.
 pub fn demo_main<S: Source, K: Sink>(
     alloc: Global,
     words: &[String],
     script: &mut S,
     out: &mut K,
 ) -> Status
-    // Each status has its cause: in the words, in the text that the source had, or in a count of faults.
+    // Each status has its cause: in the words, in the text that the source had, or in a count of
+    // faults.
     ensures cause { HasCause words.now
         (streams (S.left script.old) (S.faults script.old) (K.written out.old) (K.faults out.old))
-        (streams (S.left script.new) (S.faults script.new) (K.written out.new) (K.faults out.new)) result }
+        (streams (S.left script.new) (S.faults script.new) (K.written out.new) (K.faults out.new))
+        result }
 
-    // Where no fault is counted and memory is there, the text decides: a script is answered to its end, and any other
-    // text is refused with its first fault.
+    // Where no fault is counted and memory is there, the text decides: a script is answered to its
+    // end, and any other text is refused with its first fault.
     ensures complete { IsDemo words.now → ¬ Rose (S.faults script.old) (S.faults script.new)
         → ¬ Rose (K.faults out.old) (K.faults out.new)
         → IfSome (S.left script.old) (λ text. IsEndOf text result) }
 
     // However it ends, what was written is a prefix of the text of the answers.
-    ensures prefix { IfSome (S.left script.old) (λ text. (answers : List ℕ) → IsAnswerText text answers
+    ensures prefix { IfSome (S.left script.old) (λ text. (answers : List ℕ)
+        → IsAnswerText text answers
         → WritesPrefix (K.written out.old) (K.written out.new) answers) }
 
     // What isn't used stays as it was, and no fault that was counted is forgotten.

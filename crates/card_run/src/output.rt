@@ -1,6 +1,7 @@
 //! The text of the answers.
 ghost use Rattle.std.specs.Prelude.{◌≡◌, ◌≤◌, ◌++◌, codes, length, OnOk};
 ghost use Rattle.hex.specs.Hex.{encode_upper};
+ghost use Rattle.apdu_codec.specs.declared.answers.Answer.{Answer};
 ghost use Rattle.card_run.specs.Demo.{answer_line};
 
 use apdu_codec::Sw;
@@ -11,7 +12,11 @@ use std::alloc::AllocError;
 pub const MAX_BODY_DIGITS: usize = 512;
 
 // Appends bytes in upper-case hex. The digits are first put into `room`.
-fn push_hex(text: &mut Vec<u8>, bytes: &[u8], room: &mut [u8; MAX_BODY_DIGITS]) -> Result<(), AllocError>
+fn push_hex(
+    text: &mut Vec<u8>,
+    bytes: &[u8],
+    room: &mut [u8; MAX_BODY_DIGITS],
+) -> Result<(), AllocError>
     requires { length bytes.now ≤ 256 }
     ensures { OnOk result (text.new.items ≡ text.old.items ++ encode_upper bytes.now) }
 {
@@ -25,7 +30,8 @@ fn push_hex(text: &mut Vec<u8>, bytes: &[u8], room: &mut [u8; MAX_BODY_DIGITS]) 
 // Appends the two bytes of a status word in upper-case hex, and LF.
 fn push_end(text: &mut Vec<u8>, word: &[u8]) -> Result<(), AllocError>
     requires { length word.now ≡ 2 }
-    ensures { OnOk result (text.new.items ≡ text.old.items ++ (encode_upper word.now ++ codes "\n")) }
+    ensures { OnOk result
+        (text.new.items ≡ text.old.items ++ (encode_upper word.now ++ codes "\n")) }
 {
     let mut end = *b"....\n";
     let digits = &mut end[..4];
@@ -35,8 +41,8 @@ fn push_end(text: &mut Vec<u8>, word: &[u8]) -> Result<(), AllocError>
     Ok(())
 }
 
-/// Appends the line `1.K ANSWER` of statement K, counted from 1: the answer's body and status word in upper-case hex.
-/// The digits of the body are first put into `room`.
+/// Appends the line `1.K ANSWER` of statement K, counted from 1: the answer's body and status word
+/// in upper-case hex. The digits of the body are first put into `room`.
 pub fn push_answer(
     text: &mut Vec<u8>,
     number: usize,
@@ -45,7 +51,8 @@ pub fn push_answer(
     room: &mut [u8; MAX_BODY_DIGITS],
 ) -> Result<(), AllocError>
     requires { length body.now ≤ 256 }
-    ensures { OnOk result (text.new.items ≡ text.old.items ++ answer_line number (record { body = body.now; sw = sw })) }
+    ensures { let answer : Answer = record { body = body.now; sw = sw } in
+        OnOk result (text.new.items ≡ text.old.items ++ answer_line number answer) }
 {
     text.extend_from_slice(b"1.")?;
     text.extend_from_slice(Buffer::new().format(number).as_bytes())?;

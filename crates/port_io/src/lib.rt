@@ -1,6 +1,6 @@
-//! Where a program's bytes come from and where they go: a `Source` and a `Sink`, over memory and over the
-//! standard streams, read to the end and written whole. Each counts its faults, and a call fails only where that
-//! count rose.
+//! Where a program's bytes come from and where they go: a `Source` and a `Sink`, over memory and
+//! over the standard streams, read to the end and written whole. Each counts its faults, and a
+//! call fails only where that count rose.
 #![tactic(auto)]
 
 mod calls;

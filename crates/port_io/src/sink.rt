@@ -13,11 +13,12 @@ pub trait Sink {
     /// How many faults there were.
     ghost faults: { Self → ℕ };
 
-    /// Writes a prefix of the piece and returns its length. Where that is 0 and the piece isn't empty, a fault was
-    /// counted. After `Failed` what was written is as before.
+    /// Writes a prefix of the piece and returns its length. Where that is 0 and the piece isn't
+    /// empty, a fault was counted. After `Failed` what was written is as before.
     fn put(&mut self, piece: &[u8]) -> Result<usize, Failed>
         ensures takes { IfOk result (Takes (written self.old) (written self.new) piece.now) }
-        ensures stuck { IfOk result (λ n. 0 < length piece.now → OnlyWhereRose (n ≡ 0) (faults self.old) (faults self.new)) }
+        ensures stuck { IfOk result (λ n. 0 < length piece.now
+            → OnlyWhereRose (n ≡ 0) (faults self.old) (faults self.new)) }
         ensures failed { OnErr result (Keeps (written self.old) (written self.new)) }
         ensures cause { FailsOnlyWhereRose result (faults self.old) (faults self.new) }
         ensures count { NeverFalls (faults self.old) (faults self.new) };

@@ -19,8 +19,9 @@ pub trait Source {
     /// How many faults there were.
     ghost faults: { Self → ℕ };
 
-    /// Puts the next bytes at the start of the buffer and returns their number. For a buffer that isn't empty,
-    /// 0 is the end of the input. After `Failed` what is left is as before; the buffer may hold anything.
+    /// Puts the next bytes at the start of the buffer and returns their number. For a buffer that
+    /// isn't empty, 0 is the end of the input. After `Failed` what is left is as before; the
+    /// buffer may hold anything.
     fn take(&mut self, buf: &mut [u8]) -> Result<usize, Failed>
         ensures gives { IfOk result (Gives (left self.old) (left self.new) buf.old buf.new) }
         ensures failed { OnErr result (Keeps (left self.old) (left self.new)) }
@@ -40,17 +41,20 @@ pub enum ReadError {
     NoMemory,
 }
 
-/// Reads a source to its end, in blocks of 16 KiB; or, where it has more bytes than the limit, more bytes than that.
-/// After an error some of its bytes were taken.
+/// Reads a source to its end, in blocks of 16 KiB; or, where it has more bytes than the limit,
+/// more bytes than that. After an error some of its bytes were taken.
 pub fn read_source<S: Source>(
     alloc: Global,
     source: &mut S,
     limit: usize,
 ) -> Result<Vec<u8>, ReadError>
-    ensures taken { IfOk result (λ bytes. Consumes (S.left source.old) (S.left source.new) bytes.items) }
-    ensures enough { IfOk result (λ bytes. (limit < length bytes.items) ⊎ IsAtEnd (S.left source.new)) }
+    ensures taken { IfOk result
+        (λ bytes. Consumes (S.left source.old) (S.left source.new) bytes.items) }
+    ensures enough { IfOk result
+        (λ bytes. (limit < length bytes.items) ⊎ IsAtEnd (S.left source.new)) }
     ensures stopped { OnErr result (TakesSome (S.left source.old) (S.left source.new)) }
-    ensures fault { OnlyWhereRose (IsErrOf result ReadError.Fault) (S.faults source.old) (S.faults source.new) }
+    ensures cause { OnlyWhereRose
+        (IsErrOf result ReadError.Fault) (S.faults source.old) (S.faults source.new) }
     ensures count { NeverFalls (S.faults source.old) (S.faults source.new) }
 {
     let mut bytes = Vec::new(alloc);
