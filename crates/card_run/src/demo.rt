@@ -157,7 +157,8 @@ pub fn demo_main<S: Source, K: Sink>(
         → WritesPrefix (K.written out.old) (K.written out.new) answers) }
 
     // What isn't used stays as it was, and no fault that was counted is forgotten.
-    ensures left_alone { LeavesAlone (S.left script.old) script.old script.new out.old out.new result }
+    ensures left_alone { LeavesAlone (S.left script.old)
+        script.old script.new out.old out.new result }
     ensures read_count { NeverFalls (S.faults script.old) (S.faults script.new) }
     ensures write_count { NeverFalls (K.faults out.old) (K.faults out.new) }
 {
