@@ -1,4 +1,4 @@
-use Rattle.std.proofs.Common.{◌≡◌, ℕ, List, Option, sym, subst}
+use Rattle.std.proofs.Common.{ℕ, List, Option, sym, subst}
 use Rattle.std.specs.Prelude.{IfSome}
 use Rattle.apdu_codec.specs.declared.answers.Answer.{Answer}
 use Rattle.card_run.proofs.LoadLemmas.{IfSome-follows}

@@ -10,13 +10,13 @@ use Rattle.card_run.specs.declared.status.Status.TheVariants.{Done, Usage, Scrip
 use Rattle.card_run.specs.declared.status.Status.TheVariants.{WriteFault, NoMemory}
 
 -- the number with which the process ends
-abbrev pub number_of : Status → ℕ
-number_of Done = 0
-number_of Usage = 2
-number_of (Script line kind) = 3
-number_of ReadFault = 4
-number_of WriteFault = 5
-number_of NoMemory = 8
+abbrev pub status_number : Status → ℕ
+status_number Done = 0
+status_number Usage = 2
+status_number (Script line kind) = 3
+status_number ReadFault = 4
+status_number WriteFault = 5
+status_number NoMemory = 8
 
 -- a source and a sink at a moment: the bytes left and the bytes written, where they are reported,
 -- and the faults so far

@@ -3,7 +3,7 @@ ghost use Rattle.std.specs.Prelude.{◌≡◌, ℕ, ◌+◌, ◌-◌, ◌^◌, �
 ghost use Rattle.std.specs.Prelude.{length, IfOk, IfErr, OnOk, slice_get, Some, Ok, Err};
 ghost use Rattle.card_run.specs.Script.{ScriptStatement, most_bytes, IsScript, HasFirstFault};
 ghost use Rattle.card_run.specs.Script.{IsScriptOrFaulty, line_of_byte};
-ghost use Rattle.card_run.specs.Lines.{ReadsAs};
+ghost use Rattle.card_run.specs.Lines.{IsReadingOf};
 ghost use Rattle.card_run.specs.declared.script.ScriptFault.{ScriptFault};
 ghost use Rattle.card_run.specs.declared.script.ScriptKind.{ScriptKind};
 
@@ -185,7 +185,7 @@ pub fn read_script(alloc: Global, bytes: &[u8]) -> Result<Script, ScriptFault>
 // Reads the lines of a script that is not too long.
 fn read_lines(alloc: Global, bytes: &[u8]) -> Result<Script, ScriptFault>
     requires { length bytes.now ≤ most_bytes }
-    ensures { ReadsAs bytes.now result }
+    ensures { IsReadingOf bytes.now result }
 {
     let mut script = Script::new(alloc);
     let mut room = [0; MAX_APDU_BYTES];

@@ -1,6 +1,6 @@
 //! How the program ends.
 ghost use Rattle.std.specs.Prelude.{◌≡◌};
-ghost use Rattle.card_run.specs.Ends.{number_of};
+ghost use Rattle.card_run.specs.Ends.{status_number};
 
 use crate::script::ScriptKind;
 use port_io::Failed;
@@ -27,7 +27,7 @@ pub enum Status {
 impl Status {
     /// The number with which the process ends.
     pub fn number(self) -> u8
-        ensures { result ≡ number_of self }
+        ensures { result ≡ status_number self }
     {
         match self {
             Status::Done => 0,

@@ -4,7 +4,7 @@ use Rattle.std.specs.Io.KnownBytes.{Consumes, IsAtEnd}
 
 -- n bytes came: they stand at the start of the buffer, and were the next of those left.
 -- A source that reports what is left goes on reporting it.
-pub record Gives (left_before left_after : Option (List ℕ)) (buf_before buf_after : List ℕ)
+pub record TakesNext (left_before left_after : Option (List ℕ)) (buf_before buf_after : List ℕ)
     (n : ℕ) : Type 0 where
   pub within : n ≤ length buf_before
   pub bytes : Consumes left_before left_after (take n buf_after)

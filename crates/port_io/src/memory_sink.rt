@@ -1,6 +1,6 @@
 ghost use Rattle.std.specs.Prelude.{◌≡◌, ◌↔◌, ◌==◌, ◌&&◌, [], IfOk, OnErr, IsErr, MatchResult};
 ghost use Rattle.std.specs.Prelude.{true, nat_lt, length};
-ghost use Rattle.port_io.specs.Calls.{planned, NextFails, after_call};
+ghost use Rattle.port_io.specs.Calls.{planned, NextFails, with_call};
 ghost use Rattle.port_io.specs.Faults.{NeverFalls};
 ghost use Rattle.port_io.specs.MemorySink.{TakesAll};
 
@@ -69,8 +69,8 @@ impl Sink for MemorySink {
         ensures fails { IsErr result ↔ NextFails self.old.calls }
         ensures counted { MatchResult result
             (λ n. self.new.calls
-            ≡ after_call self.old.calls (n == 0 && nat_lt 0 (length piece.now)))
-            (λ _. self.new.calls ≡ after_call self.old.calls true) }
+            ≡ with_call self.old.calls (n == 0 && nat_lt 0 (length piece.now)))
+            (λ _. self.new.calls ≡ with_call self.old.calls true) }
         ensures all { IfOk result (TakesAll self.old self.new piece.now) }
         ensures room { self.new.room ≡ self.old.room }
         ensures unchanged { OnErr result (self.new.written ≡ self.old.written) }

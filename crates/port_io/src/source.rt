@@ -1,7 +1,7 @@
 ghost use Rattle.std.specs.Prelude.{◌<◌, ◌⊎◌, ℕ, List, Option, length, IfOk, OnErr, IsErrOf};
 ghost use Rattle.std.specs.Io.KnownBytes.{Consumes, IsAtEnd, Keeps};
 ghost use Rattle.port_io.specs.Faults.{NeverFalls, OnlyWhereRose, FailsOnlyWhereRose};
-ghost use Rattle.port_io.specs.Source.{Gives, TakesSome};
+ghost use Rattle.port_io.specs.Source.{TakesNext, TakesSome};
 
 use std::alloc::{AllocError, Global};
 use thiserror::Error;
@@ -23,7 +23,7 @@ pub trait Source {
     /// isn't empty, 0 is the end of the input. After `Failed` what is left is as before; the
     /// buffer may hold anything.
     fn take(&mut self, buf: &mut [u8]) -> Result<usize, Failed>
-        ensures gives { IfOk result (Gives (left self.old) (left self.new) buf.old buf.new) }
+        ensures gives { IfOk result (TakesNext (left self.old) (left self.new) buf.old buf.new) }
         ensures failed { OnErr result (Keeps (left self.old) (left self.new)) }
         ensures cause { FailsOnlyWhereRose result (faults self.old) (faults self.new) }
         ensures count { NeverFalls (faults self.old) (faults self.new) };

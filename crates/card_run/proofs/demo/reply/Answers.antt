@@ -1,9 +1,9 @@
-use Rattle.std.proofs.Common.{◌≡◌, ◌++◌, ℕ, List, [], Some, None, inl, inr, refl, ap, ◌∙◌}
+use Rattle.std.proofs.Common.{◌≡◌, ◌++◌, ℕ, List, [], Some, None, inl, inr, ap, ◌∙◌}
 use Rattle.apdu_codec.specs.Command.{apdu_of}
 use Rattle.apdu_codec.specs.declared.status.Sw.{Sw}
 use Rattle.profile_card.specs.Card.{Card, settled}
 use Rattle.profile_card.specs.CardState.{card_of}
-use Rattle.profile_card.specs.Step.{Outcome, answering}
+use Rattle.profile_card.specs.Step.{answering}
 use Rattle.card_run.specs.Demo.{answer_line}
 use Rattle.card_run.proofs.demo.reply.Goals as goal
 
