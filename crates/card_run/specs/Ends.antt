@@ -35,7 +35,7 @@ streams left read_faults written write_faults =
       write_faults = write_faults;
     }
 
--- why a run of `demo` ends so; want of memory alone needs no cause
+-- why a run of `demo` ends so; out of memory alone needs no cause
 abbrev pub HasRunCause : Streams → Streams → Status → Type 0
 HasRunCause before after Usage = ⊥
 HasRunCause before after (Script line kind) =

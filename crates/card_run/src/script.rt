@@ -168,10 +168,13 @@ pub fn read_script(alloc: Global, bytes: &[u8]) -> Result<Script, ScriptFault>
     ensures refused { (line : ℕ) (kind : ScriptKind) → HasFirstFault bytes.now line kind
         → (result ≡ Err (ScriptFault.Bad line kind)) ⊎ (result ≡ Err ScriptFault.NoMemory) }
 
-    // Each text is a script or has a first fault, and never both.
+    // Each text is a script or has one first fault, and never both.
     ensures one_of { IsScriptOrFaulty bytes.now }
     ensures not_both { (statements : List ScriptStatement) (line : ℕ) (kind : ScriptKind)
         → IsScript bytes.now statements → ¬ HasFirstFault bytes.now line kind }
+    ensures one_fault { (line other : ℕ) (kind another : ScriptKind)
+        → HasFirstFault bytes.now line kind → HasFirstFault bytes.now other another
+        → (line ≡ other) × (kind ≡ another) }
 {
     if bytes.len() > MAX_SCRIPT_BYTES {
         return Err(ScriptFault::Bad {
