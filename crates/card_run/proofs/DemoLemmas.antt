@@ -1,5 +1,5 @@
-use Rattle.std.proofs.Common.{◌≡◌, ℕ, zero, suc, ◌+◌, ◌<◌, ◌≤◌, List, [], ◌∷◌, ◌++◌, map, length, take, drop, Option, Some, None, refl, sym, ◌∙◌, ap, subst, arith, append_assoc, add-one, add-zero}
-use Rattle.std.proofs.KnownBytes.{Appends-trans}
+use Rattle.std.proofs.Common.{◌≡◌, ℕ, zero, suc, ◌+◌, ◌<◌, ◌≤◌, List, [], ◌∷◌, ◌++◌, map, length, take, drop, Option, Some, refl, sym, ◌∙◌, ap, subst, arith, append_assoc, add-one, add-zero}
+use Rattle.std.proofs.KnownBytes.{Appends-nil, Appends-trans}
 use Rattle.std.proofs.lemmas.List.{append-nil, length-map, length-take-le, map-append, take-append-drop, take-append-le}
 use Rattle.std.specs.Io.KnownBytes.{Appends}
 use Rattle.std.specs.Prelude.{slice_get}
@@ -9,7 +9,7 @@ use Rattle.profile_card.specs.CardState.{CardState, card_of}
 use Rattle.profile_card.specs.Sample.{sample_card}
 use Rattle.profile_card.specs.Step.{Gives, Runs, RunsTo}
 use Rattle.profile_card.proofs.RunLemmas.{RunsTo-front, RunsTo-more}
-use Rattle.card_run.specs.Demo.{IsRun, WritesFront, answer_line, answer_lines, demo_text}
+use Rattle.card_run.specs.Demo.{IsRun, WritesPrefix, answer_line, answer_lines, demo_text}
 use Rattle.card_run.specs.Script.{ScriptStatement}
 
 -- the commands of statements
@@ -31,11 +31,11 @@ take-next [] i x e = absurd cc
 take-next (y ∷ ys) zero x e = let same : y ≡ x = cc in ap (λ (z : _). z ∷ []) same
 take-next (y ∷ ys) (suc i) x e = ap (λ (zs : List _). y ∷ zs) (take-next ys i x e)
 
--- a front that ends within the second of three parts
-front_of : (xs ys zs : List ℕ) (m n : ℕ) → m ≡ length xs + n → n ≤ length ys → xs ++ take n ys ≡ take m ((xs ++ ys) ++ zs)
-front_of [] ys zs m n e within = let same : m ≡ n = omega arith in rw same (sym (take-append-le n ys zs within))
-front_of (x ∷ xs) ys zs zero n e within = absurd (omega arith)
-front_of (x ∷ xs) ys zs (suc m) n e within = ap (λ (zs : List ℕ). x ∷ zs) (front_of xs ys zs m n (omega arith) within)
+-- a prefix that ends within the second of three parts
+prefix_of : (xs ys zs : List ℕ) (m n : ℕ) → m ≡ length xs + n → n ≤ length ys → xs ++ take n ys ≡ take m ((xs ++ ys) ++ zs)
+prefix_of [] ys zs m n e within = let same : m ≡ n = omega arith in rw same (sym (take-append-le n ys zs within))
+prefix_of (x ∷ xs) ys zs zero n e within = absurd (omega arith)
+prefix_of (x ∷ xs) ys zs (suc m) n e within = ap (λ (zs : List ℕ). x ∷ zs) (prefix_of xs ys zs m n (omega arith) within)
 
 -- ---- the text
 
@@ -60,12 +60,8 @@ length-answers (c ∷ commands) card after (x ∷ answers) run = ap suc (length-
 
 -- ---- the run so far
 
-Appends-nothing : (known : Option (List ℕ)) → Appends known known []
-Appends-nothing None = tt
-Appends-nothing (Some xs) = sym (append-nil xs)
-
 pub start : (before : Option (List ℕ)) (card : CardState) → card_of card ≡ sample_card → RunSoFar [] card before before []
-start before card e = record { answers = []; run = e; written = []; appended = Appends-nothing before; text = refl }
+start before card e = record { answers = []; run = e; written = []; appended = Appends-nil before; text = refl }
 
 -- one more statement is answered, and its line gathered
 pub answered : (script : List ScriptStatement) (index : ℕ) (statement : ScriptStatement) (card next : CardState) (before now : Option (List ℕ)) (block longer : List ℕ) (answer : Answer)
@@ -91,7 +87,7 @@ answered script index statement card next before now block longer answer so_far 
           ∙ (append_assoc so_far.written block (answer_line (index + 1) answer) ∙ ap (λ (text : List ℕ). so_far.written ++ text) (sym line)))));
     }
 
--- a front of what was gathered is written, and the rest stays gathered
+-- a prefix of what was gathered is written, and the rest stays gathered
 pub moved : (statements : List ScriptStatement) (card : CardState) (before now new : Option (List ℕ)) (block piece rest : List ℕ) → RunSoFar statements card before now block → Appends now new piece → block ≡ piece ++ rest → RunSoFar statements card before new rest
 moved statements card before now new block piece rest so_far more parts =
     record {
@@ -108,13 +104,13 @@ pub finished : (script : List ScriptStatement) (card : CardState) (before now ne
 finished script card before now new block so_far more =
     (so_far.answers, (card_of card, so_far.run), subst (Appends before new) (sym so_far.text) (Appends-trans before now new so_far.written block so_far.appended more))
 
--- a front of what was gathered is written, which is a front of the text
+-- a prefix of what was gathered is written, which is a prefix of the text
 pub stopped : (script : List ScriptStatement) (index : ℕ) (card : CardState) (before now new : Option (List ℕ)) (block : List ℕ) (n : ℕ) (answers : List Answer)
-    → RunSoFar (take index script) card before now block → Appends now new (take n block) → n ≤ length block → IsRun script answers → WritesFront before new (demo_text answers)
+    → RunSoFar (take index script) card before now block → Appends now new (take n block) → n ≤ length block → IsRun script answers → WritesPrefix before new (demo_text answers)
 stopped script index card before now new block n answers so_far more within run =
     let commands : apdus (take index script) ++ apdus (drop index script) ≡ apdus script = sym (map-append (λ (s : ScriptStatement). s.apdu) (take index script) (drop index script)) ∙ ap apdus (take-append-drop index script) in
     let rest = RunsTo-front (apdus (take index script)) (apdus (drop index script)) sample_card (card_of card) so_far.answers answers so_far.run (subst (λ (commands : List (List ℕ)). Runs sample_card commands answers) (sym commands) run) in
     let text : demo_text answers ≡ (so_far.written ++ block) ++ answer_lines (1 + length so_far.answers) rest.0 =
     ap demo_text rest.1 ∙ (answer_lines-append so_far.answers rest.0 1 ∙ ap (λ (text : List ℕ). text ++ answer_lines (1 + length so_far.answers) rest.0) so_far.text) in
-    let front : so_far.written ++ take n block ≡ take (length so_far.written + n) (demo_text answers) = rw text (front_of so_far.written block (answer_lines (1 + length so_far.answers) rest.0) (length so_far.written + n) n refl within) in
-    (length so_far.written + n, subst (Appends before new) front (Appends-trans before now new so_far.written (take n block) so_far.appended more))
+    let written : so_far.written ++ take n block ≡ take (length so_far.written + n) (demo_text answers) = rw text (prefix_of so_far.written block (answer_lines (1 + length so_far.answers) rest.0) (length so_far.written + n) n refl within) in
+    (length so_far.written + n, subst (Appends before new) written (Appends-trans before now new so_far.written (take n block) so_far.appended more))

@@ -1,4 +1,4 @@
-use Rattle.std.proofs.Common.{◌≡◌, ℕ, ◌+◌, ◌*◌, ◌/◌, ◌%◌, ◌<◌, List, [], ◌∷◌, ◌++◌, map, length, get_or, refl, sym, arith, append_assoc, zero, suc}
+use Rattle.std.proofs.Common.{◌≡◌, ℕ, ◌/◌, ◌%◌, ◌<◌, List, [], ◌∷◌, ◌++◌, map, get_or, refl, sym, arith, append_assoc, zero, suc}
 use Rattle.std.specs.Char.{to_ascii_uppercase}
 use Rattle.std.proofs.lemmas.Bool.{true≢false}
 use Rattle.std.specs.Prelude.{slice_index, Result, Ok, Err, IsOk, OnOk}
@@ -43,7 +43,7 @@ of_ok (Ok x) P ok p = p
 of_ok (Err e) P ok p = absurd (true≢false (sym ok))
 
 -- the pieces of a line, one written after another
-pub pieces : (text start digits space body status_word feed a b c d e f : List ℕ) → a ≡ text ++ start → b ≡ a ++ digits → c ≡ b ++ space → d ≡ c ++ encode_upper body → e ≡ d ++ encode_upper status_word → f ≡ e ++ feed
-    → f ≡ text ++ ((((start ++ digits) ++ space) ++ encode_upper (body ++ status_word)) ++ feed)
-pieces text start digits space body status_word feed a b c d e f ha hb hc hd he hf =
-    rw (hf, he, hd, hc, hb, ha, encode_upper-append) (simp append_assoc)
+pub pieces : (text start digits space body status_word feed a b c d e : List ℕ) → a ≡ text ++ start → b ≡ a ++ digits → c ≡ b ++ space → d ≡ c ++ encode_upper body → e ≡ d ++ (encode_upper status_word ++ feed)
+    → e ≡ text ++ ((((start ++ digits) ++ space) ++ encode_upper (body ++ status_word)) ++ feed)
+pieces text start digits space body status_word feed a b c d e ha hb hc hd he =
+    rw (he, hd, hc, hb, ha, encode_upper-append) (simp append_assoc)

@@ -1,4 +1,5 @@
 pub mod DemoLemmas
+pub mod EndsLemmas
 pub mod HexText
 pub mod LoadLemmas
 pub mod ScriptFaults

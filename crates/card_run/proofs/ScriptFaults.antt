@@ -70,26 +70,26 @@ not_both-fault text statements number kind script fault =
 
 -- ---- a list that is cut twice at an element
 
-longer_front : {A : Type 0} (xs ys more others : List A) (x y : A) → xs ++ x ∷ more ≡ ys ++ y ∷ others → length xs < length ys
+longer_prefix : {A : Type 0} (xs ys more others : List A) (x y : A) → xs ++ x ∷ more ≡ ys ++ y ∷ others → length xs < length ys
     → (between : List A) × (ys ≡ xs ++ x ∷ between)
-longer_front [] [] more others x y e lt = absurd (omega arith)
-longer_front [] (b ∷ ys) more others x y e lt = (ys, cc e)
-longer_front (a ∷ xs) [] more others x y e lt = absurd (omega arith)
-longer_front (a ∷ xs) (b ∷ ys) more others x y e lt =
+longer_prefix [] [] more others x y e lt = absurd (omega arith)
+longer_prefix [] (b ∷ ys) more others x y e lt = (ys, cc e)
+longer_prefix (a ∷ xs) [] more others x y e lt = absurd (omega arith)
+longer_prefix (a ∷ xs) (b ∷ ys) more others x y e lt =
     let rest : xs ++ x ∷ more ≡ ys ++ y ∷ others = cc e in
-    let p = longer_front xs ys more others x y rest (omega arith) in
+    let p = longer_prefix xs ys more others x y rest (omega arith) in
     let head : a ≡ b = cc e in
     let tail : ys ≡ xs ++ x ∷ p.0 = p.1 in
     (p.0, cc)
 
-level_front : {A : Type 0} (xs ys more others : List A) (x y : A) → xs ++ x ∷ more ≡ ys ++ y ∷ others → length xs ≡ length ys
+level_prefix : {A : Type 0} (xs ys more others : List A) (x y : A) → xs ++ x ∷ more ≡ ys ++ y ∷ others → length xs ≡ length ys
     → (xs ≡ ys) × (x ≡ y)
-level_front [] [] more others x y e same = (refl, cc e)
-level_front [] (b ∷ ys) more others x y e same = absurd (omega arith)
-level_front (a ∷ xs) [] more others x y e same = absurd (omega arith)
-level_front (a ∷ xs) (b ∷ ys) more others x y e same =
+level_prefix [] [] more others x y e same = (refl, cc e)
+level_prefix [] (b ∷ ys) more others x y e same = absurd (omega arith)
+level_prefix (a ∷ xs) [] more others x y e same = absurd (omega arith)
+level_prefix (a ∷ xs) (b ∷ ys) more others x y e same =
     let rest : xs ++ x ∷ more ≡ ys ++ y ∷ others = cc e in
-    let p = level_front xs ys more others x y rest (omega arith) in
+    let p = level_prefix xs ys more others x y rest (omega arith) in
     let head : a ≡ b = cc e in
     let tail : xs ≡ ys = p.0 in
     (cc, p.1)
@@ -100,7 +100,7 @@ not_before : (text : List ℕ) (number other : ℕ) (a : Fault text number) (b :
 not_before text number other a b low =
     let p = a.place in
     let q = b.place in
-    let between = longer_front p.before q.before p.after q.after a.line b.line (sym p.parts ∙ q.parts) low in
+    let between = longer_prefix p.before q.before p.after q.after a.line b.line (sym p.parts ∙ q.parts) low in
     let P : List (List ℕ) → Type 0 = λ ls. HaveStatements 1 ls b.statements in
     faultless p.before between.0 a.line a.statements b.statements p.read a.at_fault (subst P between.1 q.read) q.few
 
@@ -113,7 +113,7 @@ same_place text number other a b =
     let there = q.counted in
     elim (cases_order (length p.before) (length q.before)) [
       | inl level ↦
-          let same = level_front p.before q.before p.after q.after a.line b.line (sym p.parts ∙ q.parts) level in
+          let same = level_prefix p.before q.before p.after q.after a.line b.line (sym p.parts ∙ q.parts) level in
           (omega arith, same.1)
       | inr apart ↦
           elim apart [
@@ -146,7 +146,7 @@ HasFirstFault-same text number other Grammar TooMany h k =
 HasFirstFault-same text number other TooMany Grammar h k =
     absurd (grammar_many k.1 h.1 k.3 h.4.0 h.4.1 (same_place text other number (fault_of text other Grammar k.2.short k) (fault_of text number TooMany h.2.short h)).1)
 
--- what follows the first byte past the limit doesn't change the line that is told
+-- what follows the first byte past the limit doesn't change the line at fault
 pub HasFirstFault-longer : (front more : List ℕ) (number : ℕ) → HasFirstFault front number TooLong
     → HasFirstFault (front ++ more) number TooLong
 HasFirstFault-longer front more number h =

@@ -8,7 +8,7 @@ use Rattle.std.proofs.lemmas.Slice.Eq.{bytes_eq-Decides}
 use Rattle.hex.specs.Hex.{decode_of}
 use Rattle.hex.specs.declared.error.FromHexError.{FromHexError}
 use Rattle.card_run.specs.Script.{ScriptStatement, SpellsHex, words, IsPassedOver, IsStatement, IsFaulty, IsScript, HasFirstFault, IsScriptOrFaulty, line_of_byte}
-use Rattle.card_run.specs.Lines.{ReadsAs, IsPortOne, IsCommand}
+use Rattle.card_run.specs.Lines.{IsReadingOf, IsPortOne, SpellsCommand}
 use Rattle.card_run.specs.declared.script.ScriptFault.{ScriptFault}
 use Rattle.card_run.specs.declared.script.ScriptFault.TheVariants.{Bad, NoMemory}
 use Rattle.card_run.specs.declared.script.ScriptKind.{ScriptKind}
@@ -37,7 +37,7 @@ same_or_not a b =
 
 -- what a text decodes to settles whether it is a command
 command_from_decoded : (digits : List ℕ) (r : Result (List ℕ) FromHexError) → decode_of digits ≡ r
-    → ((apdu : List ℕ) × IsCommand digits apdu) ⊎ ((apdu : List ℕ) → ¬ IsCommand digits apdu)
+    → ((apdu : List ℕ) × SpellsCommand digits apdu) ⊎ ((apdu : List ℕ) → ¬ SpellsCommand digits apdu)
 command_from_decoded digits (Ok bytes) is =
     elim (cases_lt most_apdu_bytes (length bytes)) [
       | inl long ↦
@@ -64,10 +64,10 @@ more_words port digits extra more apdu h = elim h.1 [ inl bare ↦ cc bare.0 | i
 bare_word : (port : List ℕ) → port ≡ codes "1:" → IsPortOne (port ∷ []) []
 bare_word port same = (omega arith, inl (ap (λ (w : List ℕ). w ∷ []) same, refl))
 
-command_words : (port digits apdu : List ℕ) → port ≡ codes "1:" → IsCommand digits apdu → IsPortOne (port ∷ digits ∷ []) apdu
+command_words : (port digits apdu : List ℕ) → port ≡ codes "1:" → SpellsCommand digits apdu → IsPortOne (port ∷ digits ∷ []) apdu
 command_words port digits apdu same h = (h.0, inr (digits, ap (λ (w : List ℕ). w ∷ digits ∷ []) same, h.1))
 
-no_command : (port digits : List ℕ) → ((apdu : List ℕ) → ¬ IsCommand digits apdu) → (apdu : List ℕ) → ¬ IsPortOne (port ∷ digits ∷ []) apdu
+no_command : (port digits : List ℕ) → ((apdu : List ℕ) → ¬ SpellsCommand digits apdu) → (apdu : List ℕ) → ¬ IsPortOne (port ∷ digits ∷ []) apdu
 no_command port digits none apdu h =
     elim h.1 [
       | inl bare ↦ cc bare.0
@@ -149,25 +149,25 @@ IsScriptOrFaulty-each text =
 
 -- ---- what a right answer says
 
-pub script-from_reads : (text : List ℕ) (r : Result (List ScriptStatement) ScriptFault) → ReadsAs text r → IfOk r (λ statements. IsScript text statements)
+pub script-from_reads : (text : List ℕ) (r : Result (List ScriptStatement) ScriptFault) → IsReadingOf text r → IfOk r (λ statements. IsScript text statements)
 script-from_reads text (Ok statements) h = h
 script-from_reads text (Err e) h = tt
 
-pub fault-from_reads : (text : List ℕ) (r : Result (List ScriptStatement) ScriptFault) → ReadsAs text r
+pub fault-from_reads : (text : List ℕ) (r : Result (List ScriptStatement) ScriptFault) → IsReadingOf text r
     → (number : ℕ) (kind : ScriptKind) → r ≡ Err (Bad number kind) → HasFirstFault text number kind
 fault-from_reads text r h number kind is =
-    let P : Result (List ScriptStatement) ScriptFault → Type 0 = λ x. ReadsAs text x in subst P is h
+    let P : Result (List ScriptStatement) ScriptFault → Type 0 = λ x. IsReadingOf text x in subst P is h
 
-pub read-from_reads : (text : List ℕ) (r : Result (List ScriptStatement) ScriptFault) → ReadsAs text r
+pub read-from_reads : (text : List ℕ) (r : Result (List ScriptStatement) ScriptFault) → IsReadingOf text r
     → (statements : List ScriptStatement) → IsScript text statements → (r ≡ Ok statements) ⊎ (r ≡ Err NoMemory)
 read-from_reads text (Ok found) h statements script = inl (ap Ok (IsScript-same text found statements h script))
 read-from_reads text (Err (Bad number kind)) h statements script = absurd (not_both-fault text statements number kind script h)
 read-from_reads text (Err NoMemory) h statements script = inr refl
 
-pub told-from_reads : (text : List ℕ) (r : Result (List ScriptStatement) ScriptFault) → ReadsAs text r
+pub refused-from_reads : (text : List ℕ) (r : Result (List ScriptStatement) ScriptFault) → IsReadingOf text r
     → (number : ℕ) (kind : ScriptKind) → HasFirstFault text number kind → (r ≡ Err (Bad number kind)) ⊎ (r ≡ Err NoMemory)
-told-from_reads text (Ok found) h number kind fault = absurd (not_both-fault text found number kind h fault)
-told-from_reads text (Err (Bad other another)) h number kind fault =
+refused-from_reads text (Ok found) h number kind fault = absurd (not_both-fault text found number kind h fault)
+refused-from_reads text (Err (Bad other another)) h number kind fault =
     let same = HasFirstFault-same text other number another kind h fault in
     inl (ap (λ (n : ℕ). Err (Bad n another)) same.0 ∙ ap (λ (k : ScriptKind). Err (Bad number k)) same.1)
-told-from_reads text (Err NoMemory) h number kind fault = inr refl
+refused-from_reads text (Err NoMemory) h number kind fault = inr refl

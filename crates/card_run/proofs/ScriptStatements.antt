@@ -55,7 +55,7 @@ HaveStatements-same number (line ∷ more) a b s t =
           ]
     ]
 
--- the statements of the front and of the back of some lines
+-- the statements of a prefix of some lines and of the rest
 pub record Parts (number : ℕ) (front back : List (List ℕ)) (statements : List ScriptStatement) : Type 0 where
   pub first : List ScriptStatement
   pub second : List ScriptStatement

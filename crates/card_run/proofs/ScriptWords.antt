@@ -1,4 +1,4 @@
--- The words of a line, taken from its front.
+-- The words of a line, taken from its start.
 use Rattle.std.proofs.Common.{◌≡◌, ◌≢◌, ℕ, zero, suc, ◌+◌, ◌<◌, ◌==◌, Bool, true, false, not, List, [], ◌∷◌, ◌++◌, length, take, drop, slice_index, Option, Some, None, unwrap_or, All, refl, sym, ap, ◌∙◌, subst, arith, inl, inr, get_or-take, take-append-drop}
 use Rattle.std.specs.List.{find, filter, slice_split, onto_first}
 use Rattle.std.proofs.lemmas.Bool.{cases_eq, eq-eqb, eqb-true, ne_eqb, cond-true, cond-false}
@@ -34,7 +34,7 @@ words-first word rest some none =
     ap (filter is_word) (slice_split_at is_space word 32 rest none refl)
     ∙ cond-true (is_word word) (word ∷ words rest) (words rest) (is_word-from_length word some)
 
--- spaces at the front say nothing
+-- spaces at the start say nothing
 words-drop : (n : ℕ) (line : List ℕ) → ((k : ℕ) → k < n → slice_index line k ≡ 32) → words line ≡ words (drop n line)
 words-drop zero line spaces = refl
 words-drop (suc n) [] spaces = refl
@@ -60,16 +60,16 @@ words-none line none =
     words-drop (length line) line (λ k low. space-from_not_in (slice_index line k) (none k (omega arith) low))
     ∙ ap words (drop_all (length line) line (omega arith))
 
--- the word at the front of a line, up to a space or the end
-words-front : (line : List ℕ) (r : Option ℕ) → 0 < length line → slice_index line 0 ≢ 32 → IsFirstByte (is_byte 32) line r
+-- the word at the start of a line, up to a space or the end
+words-first_word : (line : List ℕ) (r : Option ℕ) → 0 < length line → slice_index line 0 ≢ 32 → IsFirstByte (is_byte 32) line r
     → words line ≡ take (unwrap_or r (length line)) line ∷ words (drop (unwrap_or r (length line)) line)
-words-front line None some other none =
+words-first_word line None some other none =
     let spaceless : HasNoSpace line =
     All-from_get_or (λ b. is_space b ≡ false) line 0 (λ k low. ne_eqb (slice_index line k) 32 (λ same. none k (omega arith) low (eq-eqb (slice_index line k) 32 same))) in
     let whole : take (length line) line ≡ line = take_all (length line) line (omega arith) in
     let left : drop (length line) line ≡ [] = drop_all (length line) line (omega arith) in
     rw (whole, left) (words-last line some spaceless)
-words-front line (Some end) some other found =
+words-first_word line (Some end) some other found =
     let first = found.0 in
     let high = first.high in
     let space : slice_index line end ≡ 32 = eqb-true (slice_index line end) 32 found.1 in
@@ -101,7 +101,7 @@ words-some line rest start r found is ends =
     other-from_not_in (slice_index line start) found.1 (sym (ap (λ (l : List ℕ). slice_index l 0) cut) ∙ same) in
     let long : 0 < length rest = omega (arith, ap length cut) in
     words-drop start line (λ k low. space-from_not_in (slice_index line k) (first.before k (omega arith) low))
-    ∙ ap words (sym is) ∙ words-front rest r long other ends
+    ∙ ap words (sym is) ∙ words-first_word rest r long other ends
 
 -- the first byte of some words
 abbrev pub first_byte : List (List ℕ) → Option ℕ
@@ -109,7 +109,7 @@ first_byte [] = None
 first_byte ([] ∷ more) = None
 first_byte ((b ∷ bs) ∷ more) = Some b
 
--- the words of a line with another byte than a space in front begin with it
+-- the words of a line with another byte than a space at its start begin with it
 first_byte-onto : (b : ℕ) (parts : List (List ℕ)) → first_byte (filter is_word (onto_first b parts)) ≡ Some b
 first_byte-onto b [] = refl
 first_byte-onto b (part ∷ parts) = refl

@@ -1,5 +1,5 @@
 pub mod Demo
+pub mod Ends
 pub mod Lines
-pub mod Load
 pub mod Places
 pub mod Script

@@ -5,7 +5,8 @@ use Rattle.card_run.specs.declared.script.Place.{Place}
 
 -- the statement at a place of the bytes
 abbrev pub statement_at : List ℕ → Place → ScriptStatement
-statement_at bytes place = record { line = place.line; apdu = slice_range bytes place.from place.to }
+statement_at bytes place =
+    record { line = place.line; apdu = slice_range bytes place.from place.to }
 
 abbrev pub statements_at : List ℕ → List Place → List ScriptStatement
 statements_at bytes places = map (statement_at bytes) places

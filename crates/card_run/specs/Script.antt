@@ -1,5 +1,7 @@
--- The script language: which text is a script, with which statements, and what is at fault first in any other.
-use Rattle.std.specs.Prelude.{◌≡◌, ℕ, ◌+◌, ◌<◌, ◌≤◌, ◌⊎◌, ◌==◌, Bool, true, false, not, List, [], ◌∷◌, ◌++◌, length, take, codes, filter, find, count_by, IfSome, Ok}
+-- The script language: which text is a script, with which statements, and what is at fault first
+-- in any other.
+use Rattle.std.specs.Prelude.{◌≡◌, ℕ, ◌+◌, ◌<◌, ◌≤◌, ◌⊎◌, ◌==◌, Bool, true, false, not, List, []}
+use Rattle.std.specs.Prelude.{◌∷◌, ◌++◌, length, take, codes, filter, find, count_by, IfSome, Ok}
 use Rattle.std.specs.List.{slice_split}
 use Rattle.std.specs.Str.Lines.{lines}
 use Rattle.hex.specs.Hex.{decode_of}
@@ -63,16 +65,19 @@ IsStatement line apdu =
 abbrev pub IsFaulty : List ℕ → Type 0
 IsFaulty line = ¬ IsPassedOver line × ((apdu : List ℕ) → ¬ IsStatement line apdu)
 
--- these lines, the first of which has this number, are passed over or are these statements, in order
+-- these lines, the first of which has this number, are passed over or are these statements, in
+-- order
 abbrev pub HaveStatements : ℕ → List (List ℕ) → List ScriptStatement → Type 0
 HaveStatements number [] statements = statements ≡ []
 HaveStatements number (line ∷ more) statements =
     (IsPassedOver line × HaveStatements (number + 1) more statements)
     ⊎ ((apdu : List ℕ) × (others : List ScriptStatement) × IsStatement line apdu
-    × (statements ≡ record { line = number; apdu = apdu } ∷ others) × HaveStatements (number + 1) more others)
+    × (statements ≡ record { line = number; apdu = apdu } ∷ others)
+    × HaveStatements (number + 1) more others)
 
--- The text is a script, and these are its statements. Of its lines each ends with a line feed, and a carriage return
--- before that is dropped; the last needs no line feed, and keeps a carriage return at its end.
+-- The text is a script, and these are its statements. Of its lines each ends with a line feed, and
+-- a carriage return before that is dropped; the last needs no line feed, and keeps a carriage
+-- return at its end.
 pub record IsScript (text : List ℕ) (statements : List ScriptStatement) : Type 0 where
   pub short : length text ≤ most_bytes
   pub few : length statements ≤ most_statements
@@ -83,7 +88,8 @@ abbrev pub line_of_byte : List ℕ → ℕ → ℕ
 line_of_byte text place = count_by (λ b. b == line_feed) (take place text) + 1
 
 -- the line of this number, with the statements of the lines before it, none of which is at fault
-pub record ReadsUpTo (text : List ℕ) (number : ℕ) (statements : List ScriptStatement) (line : List ℕ) : Type 0 where
+pub record ReadsUpTo (text : List ℕ) (number : ℕ) (statements : List ScriptStatement)
+    (line : List ℕ) : Type 0 where
   pub before : List (List ℕ)
   pub after : List (List ℕ)
   pub short : length text ≤ most_bytes
@@ -97,13 +103,18 @@ abbrev pub HasFirstFault : List ℕ → ℕ → ScriptKind → Type 0
 HasFirstFault text number TooLong =
     (most_bytes < length text) × (number ≡ line_of_byte text most_bytes)
 HasFirstFault text number Grammar =
-    (statements : List ScriptStatement) × (line : List ℕ) × ReadsUpTo text number statements line × IsFaulty line
+    (statements : List ScriptStatement) × (line : List ℕ)
+    × ReadsUpTo text number statements line × IsFaulty line
 HasFirstFault text number TooMany =
-    (statements : List ScriptStatement) × (line : List ℕ) × ReadsUpTo text number statements line
-    × (length statements ≡ most_statements) × ((apdu : List ℕ) × IsStatement line apdu)
+    (statements : List ScriptStatement) × (line : List ℕ)
+    × ReadsUpTo text number statements line × (length statements ≡ most_statements)
+    × ((apdu : List ℕ) × IsStatement line apdu)
+
+-- it is a script, with some statements
+abbrev pub IsSomeScript : List ℕ → Type 0
+IsSomeScript text = (statements : List ScriptStatement) × IsScript text statements
 
 -- it is a script, or it has a first line at fault
 abbrev pub IsScriptOrFaulty : List ℕ → Type 0
 IsScriptOrFaulty text =
-    ((statements : List ScriptStatement) × IsScript text statements)
-    ⊎ ((number : ℕ) × (kind : ScriptKind) × HasFirstFault text number kind)
+    IsSomeScript text ⊎ ((number : ℕ) × (kind : ScriptKind) × HasFirstFault text number kind)

@@ -1,23 +1,26 @@
 //! `demo`: the sample card answers a script.
-ghost use Rattle.std.specs.Prelude.{◌≡◌, ℕ, ◌⊎◌, ◌↔◌, List, IfSome, IfOk, IfErr, OnOk, OnErr, Ok, Err, ◌≤◌, ◌++◌, length, take};
+ghost use Rattle.std.specs.Prelude.{◌≡◌, ℕ, List, IfSome, IfOk, IfErr, OnOk, OnErr, length, ◌++◌};
 ghost use Rattle.std.specs.Io.KnownBytes.{Appends, IsAtEnd};
 ghost use Rattle.apdu_codec.specs.declared.answers.Answer.{Answer};
-ghost use Rattle.port_io.specs.Faults.{NeverFalls, OnlyWhereRose, Rose};
-ghost use Rattle.profile_card.specs.CardState.{card_of};
+ghost use Rattle.file_rows.specs.Change.{Fits};
+ghost use Rattle.port_io.specs.Faults.{FailsOnlyWhereRose, NeverFalls, Rose};
+ghost use Rattle.port_io.specs.Sink.{TakesPart};
+ghost use Rattle.profile_card.specs.CardState.{HasRoomFor, card_of, content_of};
 ghost use Rattle.profile_card.specs.Step.{Gives};
-ghost use Rattle.card_run.specs.Demo.{IsDemo, IsRun, WritesFront, demo_text};
-ghost use Rattle.card_run.specs.Load.{HasLoadCause, HasWriteCause};
-ghost use Rattle.card_run.specs.Script.{HasFirstFault, IsScript, ScriptStatement};
-ghost use Rattle.card_run.specs.declared.script.ScriptKind.{ScriptKind};
+ghost use Rattle.card_run.specs.Demo.{IsAnswerText, IsDemo, IsRun, WritesPrefix, answer_line};
+ghost use Rattle.card_run.specs.Demo.{demo_text};
+ghost use Rattle.card_run.specs.Ends.{HasCause, HasLoadCause, HasWriteCause, IsEndOf, LeavesAlone};
+ghost use Rattle.card_run.specs.Ends.{streams};
+ghost use Rattle.card_run.specs.Script.{IsScript};
 
-use crate::input::{InputError, read_source};
-use crate::output::{push_answer, write_all};
+use crate::output::{MAX_BODY_DIGITS, push_answer};
 use crate::script::{MAX_SCRIPT_BYTES, Script, ScriptFault, read_script};
 use crate::status::Status;
 use crate::words::is_demo;
-use apdu_codec::{Answer, read_command};
-use port_io::{Failed, Sink, Source};
-use profile_card::{Card1, sample_card};
+use apdu_codec::read_command;
+use file_rows::Change;
+use port_io::{Failed, ReadError, Sink, Source, read_source, write_all};
+use profile_card::{Card1, NoMemory, sample_card};
 use std::alloc::Global;
 
 /// How much text is gathered before it is written.
@@ -26,35 +29,58 @@ const BLOCK: usize = 65_536;
 /// The most bytes that one line of text has: `1.K `, 258 bytes in hex and LF.
 const LONGEST_LINE: usize = 1_024;
 
-// What the card answers to these bytes.
-fn reply(card: &mut Card1, bytes: &[u8]) -> Answer
-    ensures { Gives (card_of card.old) bytes.now result (card_of card.new) }
+// Takes the memory that a change needs, where there is one. Without it nothing changes.
+fn reserve(card: &mut Card1, change: &Option<Change>) -> Result<(), NoMemory>
+    requires { IfSome change.now (Fits (content_of card.old)) }
+    ensures card { card_of card.new ≡ card_of card.old }
+    ensures room { OnOk result (HasRoomFor card.new change.now) }
+{
+    match change {
+        Some(change) => card.reserve(change),
+        None => Ok(()),
+    }
+}
+
+// Appends the line of the card's answer to statement `number`, and carries out what the command
+// comes to. Without memory the card stays as it was.
+fn reply(
+    card: &mut Card1,
+    number: usize,
+    bytes: &[u8],
+    text: &mut Vec<u8>,
+    room: &mut [u8; MAX_BODY_DIGITS],
+) -> Result<(), NoMemory>
+    ensures given { OnOk result ((answer : Answer)
+        × Gives (card_of card.old) bytes.now answer (card_of card.new)
+        × (text.new.items ≡ text.old.items ++ answer_line number answer)) }
+    ensures as_before { OnErr result (card_of card.new ≡ card_of card.old) }
 {
     match read_command(bytes) {
         Ok(command) => {
             let decided = card.decide(&command);
+            let answer = &decided.answer;
+            push_answer(text, number, answer.body.as_slice(), answer.sw, room)?;
+            reserve(card, &decided.change)?;
             card.settle(&decided);
-            decided.answer
         }
-        Err(sw) => Answer::status(sw),
+        Err(sw) => push_answer(text, number, &[], sw, room)?,
     }
+    Ok(())
 }
 
 // Reads the script that the source has.
 fn load<S: Source>(alloc: Global, source: &mut S) -> Result<Script, Status>
-    ensures script { IfOk result (λ script. IfSome (S.left source.old) (λ text. IsScript text script)) }
+    ensures script { IfOk result
+        (λ script. IfSome (S.left source.old) (λ text. IsScript text script)) }
     ensures end { OnOk result (IsAtEnd (S.left source.new)) }
-    ensures cause { IfErr result (HasLoadCause (S.left source.old) (S.faults source.old) (S.faults source.new)) }
-    ensures told { IfSome (S.left source.old) (λ text. (line : ℕ) (kind : ScriptKind) → HasFirstFault text line kind
-        → (result ≡ Err (Status.Script line kind)) ⊎ ((result ≡ Err Status.ReadFault) ⊎ (result ≡ Err Status.NoMemory))) }
-    ensures read { IfSome (S.left source.old) (λ text. (statements : List ScriptStatement) → IsScript text statements
-        → (result ≡ Ok statements) ⊎ ((result ≡ Err Status.ReadFault) ⊎ (result ≡ Err Status.NoMemory))) }
+    ensures cause { IfErr result
+        (HasLoadCause (S.left source.old) (S.faults source.old) (S.faults source.new)) }
     ensures count { NeverFalls (S.faults source.old) (S.faults source.new) }
 {
     let text = match read_source(alloc, source, MAX_SCRIPT_BYTES) {
         Ok(text) => text,
-        Err(InputError::Fault) => return Err(Status::ReadFault),
-        Err(InputError::NoMemory) => return Err(Status::NoMemory),
+        Err(ReadError::Fault) => return Err(Status::ReadFault),
+        Err(ReadError::NoMemory) => return Err(Status::NoMemory),
     };
     match read_script(alloc, &text) {
         Ok(script) => Ok(script),
@@ -65,11 +91,12 @@ fn load<S: Source>(alloc: Global, source: &mut S) -> Result<Script, Status>
 
 // Writes what is gathered where that is a block.
 fn write_full_block<K: Sink>(out: &mut K, block: &mut Vec<u8>) -> Result<(), Failed>
-    ensures moved { OnOk result ((piece : List ℕ) × Appends (K.written out.old) (K.written out.new) piece
+    ensures moved { OnOk result ((piece : List ℕ)
+        × Appends (K.written out.old) (K.written out.new) piece
         × (block.old.items ≡ piece ++ block.new.items)) }
-    ensures front { OnErr result ((n : ℕ) × (n ≤ length block.old.items)
-        × Appends (K.written out.old) (K.written out.new) (take n block.old.items)) }
-    ensures fault { OnErr result (Rose (K.faults out.old) (K.faults out.new)) }
+    ensures prefix { OnErr result
+        (TakesPart (K.written out.old) (K.written out.new) block.old.items) }
+    ensures cause { FailsOnlyWhereRose result (K.faults out.old) (K.faults out.new) }
     ensures count { NeverFalls (K.faults out.old) (K.faults out.new) }
 {
     if block.len() >= BLOCK {
@@ -83,68 +110,57 @@ fn write_full_block<K: Sink>(out: &mut K, block: &mut Vec<u8>) -> Result<(), Fai
 fn answer_all<K: Sink>(alloc: Global, script: &Script, out: &mut K) -> Result<(), Status>
     ensures done { OnOk result ((answers : List Answer) × IsRun script.now answers
         × Appends (K.written out.old) (K.written out.new) (demo_text answers)) }
-    ensures front { (answers : List Answer) → IsRun script.now answers
-        → WritesFront (K.written out.old) (K.written out.new) (demo_text answers) }
+    ensures prefix { (answers : List Answer) → IsRun script.now answers
+        → WritesPrefix (K.written out.old) (K.written out.new) (demo_text answers) }
     ensures cause { IfErr result (HasWriteCause (K.faults out.old) (K.faults out.new)) }
     ensures count { NeverFalls (K.faults out.old) (K.faults out.new) }
 {
     let mut card = sample_card(alloc)?;
     let mut block = Vec::with_capacity(alloc, BLOCK + LONGEST_LINE)?;
+    let mut room = [0; MAX_BODY_DIGITS];
     for index in 0..script.len() {
-        let answer = reply(&mut card, script.statement(index).apdu);
-        push_answer(&mut block, index + 1, &answer)?;
+        let bytes = script.statement(index).apdu;
+        reply(&mut card, index + 1, bytes, &mut block, &mut room)?;
         write_full_block(out, &mut block)?;
     }
     write_all(out, &block)?;
     Ok(())
 }
 
-/// Does all that the program does: with the words `demo` it reads a script from the source, sends its commands to
-/// the sample card at port 1, and writes the answers, one a line.
+/// Does all that the program does: with the words `demo` it reads a script from the source, sends
+/// its commands to the sample card at port 1, and writes the answers, one a line.
 ///
-/// The script is read whole before anything is written. No memory is taken for a command.
+/// The script is read whole before anything is written. Memory is taken for a command only where
+/// its change needs it.
 pub fn demo_main<S: Source, K: Sink>(
     alloc: Global,
     words: &[String],
     script: &mut S,
     out: &mut K,
 ) -> Status
-    // The words are `demo` alone, or nothing is read or written.
-    ensures usage { (result ≡ Status.Usage) ↔ ¬ IsDemo words.now }
-    ensures usage_changes_nothing { result ≡ Status.Usage → (script.new ≡ script.old) × (out.new ≡ out.old) }
+    // Each status has its cause: in the words, in the text that the source had, or in a count of
+    // faults.
+    ensures cause { HasCause words.now
+        (streams (S.left script.old) (S.faults script.old) (K.written out.old) (K.faults out.old))
+        (streams (S.left script.new) (S.faults script.new) (K.written out.new) (K.faults out.new))
+        result }
 
-    // A fault is told only where the object handed in had one.
-    ensures read_fault { OnlyWhereRose (result ≡ Status.ReadFault) (S.faults script.old) (S.faults script.new) }
-    ensures read_fault_writes_nothing { result ≡ Status.ReadFault → out.new ≡ out.old }
-    ensures write_fault { OnlyWhereRose (result ≡ Status.WriteFault) (K.faults out.old) (K.faults out.new) }
+    // Where no fault is counted and memory is there, the text decides: a script is answered to its
+    // end, and any other text is refused with its first fault.
+    ensures complete { IsDemo words.now → ¬ Rose (S.faults script.old) (S.faults script.new)
+        → ¬ Rose (K.faults out.old) (K.faults out.new)
+        → IfSome (S.left script.old) (λ text. IsEndOf text result) }
+
+    // However it ends, what was written is a prefix of the text of the answers.
+    ensures prefix { IfSome (S.left script.old) (λ text. (answers : List ℕ)
+        → IsAnswerText text answers
+        → WritesPrefix (K.written out.old) (K.written out.new) answers) }
+
+    // What isn't used stays as it was, and no fault that was counted is forgotten.
+    ensures left_alone { LeavesAlone (S.left script.old)
+        script.old script.new out.old out.new result }
     ensures read_count { NeverFalls (S.faults script.old) (S.faults script.new) }
     ensures write_count { NeverFalls (K.faults out.old) (K.faults out.new) }
-
-    // The first fault of a text that is no script is told, and nothing is written.
-    ensures script { IfSome (S.left script.old) (λ text. (line : ℕ) (kind : ScriptKind)
-        → result ≡ Status.Script line kind → HasFirstFault text line kind) }
-    ensures script_told { IfSome (S.left script.old) (λ text. (line : ℕ) (kind : ScriptKind)
-        → IsDemo words.now → HasFirstFault text line kind
-        → (result ≡ Status.Script line kind) ⊎ ((result ≡ Status.ReadFault) ⊎ (result ≡ Status.NoMemory))) }
-    ensures script_writes_nothing { (line : ℕ) (kind : ScriptKind) → result ≡ Status.Script line kind → out.new ≡ out.old }
-    ensures faulty_writes_nothing { IfSome (S.left script.old) (λ text. (line : ℕ) (kind : ScriptKind)
-        → HasFirstFault text line kind → out.new ≡ out.old) }
-
-    // At the end all was read, and the text of the sample card's answers was written.
-    ensures done { IfSome (S.left script.old) (λ text. result ≡ Status.Done → IsAtEnd (S.left script.new)
-        × ((statements : List ScriptStatement) × (answers : List Answer) × IsScript text statements × IsRun statements answers
-        × Appends (K.written out.old) (K.written out.new) (demo_text answers))) }
-
-    // However it ends, what was written is a front of that text.
-    ensures front { IfSome (S.left script.old) (λ text. (statements : List ScriptStatement) (answers : List Answer)
-        → IsScript text statements → IsRun statements answers
-        → WritesFront (K.written out.old) (K.written out.new) (demo_text answers)) }
-
-    // A script is answered whole, unless a fault is counted or memory runs out.
-    ensures complete { IfSome (S.left script.old) (λ text. (statements : List ScriptStatement)
-        → IsDemo words.now → IsScript text statements
-        → ¬ Rose (S.faults script.old) (S.faults script.new) → ¬ Rose (K.faults out.old) (K.faults out.new)
-        → (result ≡ Status.Done) ⊎ (result ≡ Status.NoMemory)) }
 {
     if !is_demo(words) {
         return Status::Usage;

@@ -2,7 +2,6 @@
 #![tactic(auto)]
 
 mod demo;
-mod input;
 mod output;
 mod script;
 mod status;

@@ -1,7 +1,9 @@
 //! The reader of scripts: lines `port 1: HEX` become commands to the card at port 1.
-ghost use Rattle.std.specs.Prelude.{◌≡◌, ℕ, ◌+◌, ◌-◌, ◌^◌, ◌<◌, ◌≤◌, ◌⊎◌, List, [], ◌∷◌, ◌++◌, length, IfOk, IfErr, OnOk, slice_get, Some, Ok, Err};
-ghost use Rattle.card_run.specs.Script.{ScriptStatement, most_bytes, IsScript, HasFirstFault, IsScriptOrFaulty, line_of_byte};
-ghost use Rattle.card_run.specs.Lines.{ReadsAs};
+ghost use Rattle.std.specs.Prelude.{◌≡◌, ℕ, ◌+◌, ◌-◌, ◌^◌, ◌<◌, ◌≤◌, ◌⊎◌, List, [], ◌∷◌, ◌++◌};
+ghost use Rattle.std.specs.Prelude.{length, IfOk, IfErr, OnOk, slice_get, Some, Ok, Err};
+ghost use Rattle.card_run.specs.Script.{ScriptStatement, most_bytes, IsScript, HasFirstFault};
+ghost use Rattle.card_run.specs.Script.{IsScriptOrFaulty, line_of_byte};
+ghost use Rattle.card_run.specs.Lines.{IsReadingOf};
 ghost use Rattle.card_run.specs.declared.script.ScriptFault.{ScriptFault};
 ghost use Rattle.card_run.specs.declared.script.ScriptKind.{ScriptKind};
 
@@ -116,7 +118,8 @@ impl Script {
     /// The statement at place `index`, from 0.
     pub fn statement(&self, index: usize) -> Statement<'_>
         requires { index < length self.now }
-        ensures { slice_get self.now index ≡ Some (record { line = result.line; apdu = result.apdu.now }) }
+        ensures { slice_get self.now index
+            ≡ Some (record { line = result.line; apdu = result.apdu.now }) }
     {
         let place = &self.places[index];
         Statement {
@@ -127,7 +130,8 @@ impl Script {
 
     // Adds a statement at the end.
     fn push(&mut self, line: u32, apdu: &[u8]) -> Result<(), AllocError>
-        ensures { OnOk result (self.new ≡ self.old ++ record { line = line; apdu = apdu.now } ∷ []) }
+        ensures { OnOk result
+            (self.new ≡ self.old ++ record { line = line; apdu = apdu.now } ∷ []) }
     {
         let from = self.bytes.len();
         self.bytes.extend_from_slice(apdu)?;
@@ -149,24 +153,28 @@ fn line_of_byte(bytes: &[u8], place: usize) -> u32
 
 /// Reads a script, in one pass and in memory of its size.
 ///
-/// A text that is no script has one first fault, which is told: more bytes than a script may have
-/// before any line, and then the first line that is outside the language or one statement too many.
+/// A text that is no script has one first fault, which is returned: more bytes than a script may
+/// have before any line, and then the first line that is outside the language or one statement
+/// too many.
 pub fn read_script(alloc: Global, bytes: &[u8]) -> Result<Script, ScriptFault>
-    // What is read is the script of the text, and what is told is its first fault.
+    // What is read is the script of the text, and a fault is its first one.
     ensures script { IfOk result (λ statements. IsScript bytes.now statements) }
     ensures fault { (line : ℕ) (kind : ScriptKind) → result ≡ Err (ScriptFault.Bad line kind)
         → HasFirstFault bytes.now line kind }
 
-    // A script is read and a fault is told, unless memory runs out.
+    // A script is read and a fault returned, unless memory runs out.
     ensures read { (statements : List ScriptStatement) → IsScript bytes.now statements
         → (result ≡ Ok statements) ⊎ (result ≡ Err ScriptFault.NoMemory) }
-    ensures told { (line : ℕ) (kind : ScriptKind) → HasFirstFault bytes.now line kind
+    ensures refused { (line : ℕ) (kind : ScriptKind) → HasFirstFault bytes.now line kind
         → (result ≡ Err (ScriptFault.Bad line kind)) ⊎ (result ≡ Err ScriptFault.NoMemory) }
 
-    // Each text is a script or has a first fault, and never both.
+    // Each text is a script or has one first fault, and never both.
     ensures one_of { IsScriptOrFaulty bytes.now }
-    ensures not_both { (statements : List ScriptStatement) (line : ℕ) (kind : ScriptKind) → IsScript bytes.now statements
-        → ¬ HasFirstFault bytes.now line kind }
+    ensures not_both { (statements : List ScriptStatement) (line : ℕ) (kind : ScriptKind)
+        → IsScript bytes.now statements → ¬ HasFirstFault bytes.now line kind }
+    ensures one_fault { (line other : ℕ) (kind another : ScriptKind)
+        → HasFirstFault bytes.now line kind → HasFirstFault bytes.now other another
+        → (line ≡ other) × (kind ≡ another) }
 {
     if bytes.len() > MAX_SCRIPT_BYTES {
         return Err(ScriptFault::Bad {
@@ -180,7 +188,7 @@ pub fn read_script(alloc: Global, bytes: &[u8]) -> Result<Script, ScriptFault>
 // Reads the lines of a script that is not too long.
 fn read_lines(alloc: Global, bytes: &[u8]) -> Result<Script, ScriptFault>
     requires { length bytes.now ≤ most_bytes }
-    ensures { ReadsAs bytes.now result }
+    ensures { IsReadingOf bytes.now result }
 {
     let mut script = Script::new(alloc);
     let mut room = [0; MAX_APDU_BYTES];

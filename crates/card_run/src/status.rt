@@ -1,4 +1,7 @@
 //! How the program ends.
+ghost use Rattle.std.specs.Prelude.{◌≡◌};
+ghost use Rattle.card_run.specs.Ends.{status_number};
+
 use crate::script::ScriptKind;
 use port_io::Failed;
 use std::alloc::AllocError;
@@ -15,15 +18,17 @@ pub enum Status {
     Script { line: u32, kind: ScriptKind },
     /// The script could not be read.
     ReadFault,
-    /// The text could not be written; a front of it was.
+    /// The text could not be written; a prefix of it was.
     WriteFault,
-    /// There was no memory; a front of the text was written.
+    /// Out of memory; a prefix of the text was written.
     NoMemory,
 }
 
 impl Status {
     /// The number with which the process ends.
-    pub fn number(self) -> u8 {
+    pub fn number(self) -> u8
+        ensures { result ≡ status_number self }
+    {
         match self {
             Status::Done => 0,
             Status::Usage => 2,
@@ -35,7 +40,7 @@ impl Status {
     }
 }
 
-/// What standard error is told; nothing where all went well.
+/// The text on standard error; none where all went well.
 impl fmt::Display for Status {
     fn fmt<W: fmt::Write>(&self, f: &mut fmt::Formatter<W>) -> fmt::Result {
         match self {

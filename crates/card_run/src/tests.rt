@@ -1,4 +1,5 @@
-//! What no clause says: the worked example, the texts of the statuses, and sources and sinks that fail.
+//! What no clause says: the worked examples, the texts of the statuses, and sources and sinks that
+//! fail.
 ghost use Rattle.std.specs.Prelude.{Some};
 
 use super::*;
@@ -8,8 +9,13 @@ use port_io::{Failed, MemorySink, MemorySource, Sink};
 use std::alloc::{AllocError, Global};
 use std::test::Fail;
 
-const WORKED: &str =
-    "port 1: 00A4000C022FE2\nport 1: 00B000000A\nport 1: 00B000000B\nport 1: 00B0000A01\nport 1: 0084000008\n";
+const WORKED: &str = "\
+port 1: 00A4000C022FE2
+port 1: 00B000000A
+port 1: 00B000000B
+port 1: 00B0000A01
+port 1: 0084000008
+";
 
 const ANSWERS: &str = "1.1 9000\n1.2 989400000000000000F19000\n1.3 6C0A\n1.4 6B00\n1.5 6D00\n";
 
@@ -22,7 +28,8 @@ fn words_of(alloc: Global, words: &[&str]) -> Result<Vec<String>, AllocError> {
     Ok(all)
 }
 
-// How the program ends on a script in memory, and what it wrote. One call of the source and one of the sink fail.
+// How the program ends on a script in memory, and what it wrote. One call of the source and one of
+// the sink fail.
 fn run(
     alloc: Global,
     words: &[&str],
@@ -46,11 +53,23 @@ fn the_sample_card_answers_as_in_the_worked_example(rt: HostRuntime) -> Result<(
     Ok(())
 }
 
-const MODEM: &str =
-    "port 1: 00A40004023F0000\nport 1: 00A40004022FE200\nport 1: 00B000000A\nport 1: 80F2000C\nport 1: 00A4000C026F07\nport 1: 807A000003\n";
+const MODEM: &str = "\
+port 1: 00A40004023F0000
+port 1: 00A40004022FE200
+port 1: 00B000000A
+port 1: 80F2000C
+port 1: 00A4000C026F07
+port 1: 807A000003
+";
 
-const MODEM_ANSWERS: &str =
-    "1.1 62208202782183023F00A5038001718A01058B032F0601C6099001C083010183010A9000\n1.2 62178202412183022FE28A01058B032F06018002000A8801109000\n1.3 989400000000000000F19000\n1.4 9000\n1.5 6A82\n1.6 6D00\n";
+const MODEM_ANSWERS: &str = "\
+1.1 62208202782183023F00A5038001718A01058B032F0601C6099001C083010183010A9000
+1.2 62178202412183022FE28A01058B032F06018002000A8801109000
+1.3 989400000000000000F19000
+1.4 9000
+1.5 6A82
+1.6 6D00
+";
 
 #[test]
 fn a_modem_selects_with_control_parameters(rt: HostRuntime) -> Result<(), Fail> {
@@ -72,7 +91,7 @@ fn other_words_are_usage_and_read_nothing(rt: HostRuntime) -> Result<(), Fail> {
 }
 
 #[test]
-fn a_faulty_script_is_told_and_writes_nothing(rt: HostRuntime) -> Result<(), Fail> {
+fn a_faulty_script_is_reported_and_writes_nothing(rt: HostRuntime) -> Result<(), Fail> {
     let kind = ScriptKind::Grammar;
     let rows = [
         ("port 1: 0G\n", 1),

@@ -18,13 +18,13 @@ abbrev pub NextFails : Calls → Type 0
 NextFails calls = Contains calls.fail (one_more calls.made)
 
 -- after one more call, a fault or none
-abbrev pub after_call : Calls → Bool → Calls
-after_call calls is_fault = record {
+abbrev pub with_call : Calls → Bool → Calls
+with_call calls is_fault = record {
   fail = calls.fail;
   made = one_more calls.made;
   faults = if is_fault then one_more calls.faults else calls.faults;
 }
 
 -- after one more fault
-abbrev pub after_fault : Calls → Calls
-after_fault calls = record calls { faults = one_more calls.faults }
+abbrev pub with_fault : Calls → Calls
+with_fault calls = record calls { faults = one_more calls.faults }

@@ -1,10 +1,10 @@
 ghost use Rattle.std.specs.Prelude.{◌≡◌, ◌↔◌, IsTrue};
 ghost use Rattle.port_io.specs.Faults.{NeverFalls};
-ghost use Rattle.port_io.specs.Calls.{planned, NextFails, after_call, after_fault};
+ghost use Rattle.port_io.specs.Calls.{planned, NextFails, with_call, with_fault};
 
 use std::marker::Model;
 
-/// Counts calls and faults, and knows which calls are to fail.
+/// Counts calls and faults. The calls whose numbers are listed, from 1, fail.
 #[derive(Drop)]
 pub(crate) struct CallCount {
     fail: Vec<u64>,
@@ -31,10 +31,10 @@ impl CallCount {
         }
     }
 
-    /// Counts a call, with its fault if it is one of those that fail, and tells whether it is.
+    /// Counts a call, with its fault if it is one of those that fail, and returns whether it is.
     pub(crate) fn begin(&mut self) -> bool
         ensures fails { IsTrue result ↔ NextFails self.old }
-        ensures after { self.new ≡ after_call self.old result }
+        ensures after { self.new ≡ with_call self.old result }
         ensures count { NeverFalls self.old.faults self.new.faults }
     {
         self.made = self.made.saturating_add(1);
@@ -45,8 +45,9 @@ impl CallCount {
         fails
     }
 
+    /// Counts a fault.
     pub(crate) fn fault(&mut self)
-        ensures after { self.new ≡ after_fault self.old }
+        ensures after { self.new ≡ with_fault self.old }
         ensures count { NeverFalls self.old.faults self.new.faults }
     {
         self.faults = self.faults.saturating_add(1);

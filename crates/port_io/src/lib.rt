@@ -1,5 +1,6 @@
-//! Where a program's bytes come from and where they go: a `Source` and a `Sink`, over memory and over the
-//! standard streams. Each counts its faults, and a call fails only where that count rose.
+//! Where a program's bytes come from and where they go: a `Source` and a `Sink`, over memory and
+//! over the standard streams, read to the end and written whole. Each counts its faults, and a
+//! call fails only where that count rose.
 #![tactic(auto)]
 
 mod calls;
@@ -12,8 +13,8 @@ mod std_source;
 
 pub use memory_sink::MemorySink;
 pub use memory_source::MemorySource;
-pub use sink::Sink;
-pub use source::{Failed, Source};
+pub use sink::{Sink, write_all};
+pub use source::{Failed, ReadError, Source, read_source};
 pub use std_sink::StdSink;
 pub use std_source::StdSource;
 

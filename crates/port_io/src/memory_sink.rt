@@ -1,5 +1,6 @@
-ghost use Rattle.std.specs.Prelude.{◌≡◌, ◌↔◌, ◌==◌, ◌&&◌, [], IfOk, OnErr, IsErr, MatchResult, true, nat_lt, length};
-ghost use Rattle.port_io.specs.Calls.{planned, NextFails, after_call};
+ghost use Rattle.std.specs.Prelude.{◌≡◌, ◌↔◌, ◌==◌, ◌&&◌, [], IfOk, OnErr, IsErr, MatchResult};
+ghost use Rattle.std.specs.Prelude.{true, nat_lt, length};
+ghost use Rattle.port_io.specs.Calls.{planned, NextFails, with_call};
 ghost use Rattle.port_io.specs.Faults.{NeverFalls};
 ghost use Rattle.port_io.specs.MemorySink.{TakesAll};
 
@@ -8,7 +9,8 @@ use crate::{Failed, Sink};
 use std::alloc::{AllocError as NoMemory, Global};
 use std::marker::Model;
 
-/// Takes bytes into memory, up to its room. The calls of `put` whose numbers are listed, from 1, fail.
+/// Takes bytes into memory, up to its room. The calls of `put` whose numbers are listed, from 1,
+/// fail.
 #[derive(Drop)]
 pub struct MemorySink {
     bytes: Vec<u8>,
@@ -66,8 +68,9 @@ impl Sink for MemorySink {
     fn put(&mut self, piece: &[u8]) -> Result<usize, Failed>
         ensures fails { IsErr result ↔ NextFails self.old.calls }
         ensures counted { MatchResult result
-            (λ n. self.new.calls ≡ after_call self.old.calls (n == 0 && nat_lt 0 (length piece.now)))
-            (λ _. self.new.calls ≡ after_call self.old.calls true) }
+            (λ n. self.new.calls
+            ≡ with_call self.old.calls (n == 0 && nat_lt 0 (length piece.now)))
+            (λ _. self.new.calls ≡ with_call self.old.calls true) }
         ensures all { IfOk result (TakesAll self.old self.new piece.now) }
         ensures room { self.new.room ≡ self.old.room }
         ensures unchanged { OnErr result (self.new.written ≡ self.old.written) }

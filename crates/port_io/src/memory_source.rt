@@ -1,5 +1,5 @@
 ghost use Rattle.std.specs.Prelude.{◌≡◌, ◌↔◌, IfOk, OnErr, IsErr, is_err};
-ghost use Rattle.port_io.specs.Calls.{planned, NextFails, after_call};
+ghost use Rattle.port_io.specs.Calls.{planned, NextFails, with_call};
 ghost use Rattle.port_io.specs.Faults.{NeverFalls};
 ghost use Rattle.port_io.specs.MemorySource.{GivesAll};
 
@@ -55,7 +55,7 @@ impl Source for MemorySource {
 
     fn take(&mut self, buf: &mut [u8]) -> Result<usize, Failed>
         ensures fails { IsErr result ↔ NextFails self.old.calls }
-        ensures counted { self.new.calls ≡ after_call self.old.calls (is_err result) }
+        ensures counted { self.new.calls ≡ with_call self.old.calls (is_err result) }
         ensures all { IfOk result (GivesAll self.old self.new buf.old buf.new) }
         ensures unchanged { OnErr result ((self.new.left ≡ self.old.left) × (buf.new ≡ buf.old)) }
         ensures count { NeverFalls self.old.calls.faults self.new.calls.faults }

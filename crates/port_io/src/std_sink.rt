@@ -3,7 +3,7 @@ ghost use Rattle.std.specs.Prelude.{◌≡◌};
 use crate::{Failed, Sink};
 use std::io::Write;
 
-/// A writer of the system, as the standard output. It tells what the writer tells.
+/// A writer of the system, as the standard output. It reports what the writer reports.
 #[derive(Drop)]
 pub struct StdSink<W> {
     writer: W,

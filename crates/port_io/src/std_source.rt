@@ -3,7 +3,7 @@ ghost use Rattle.std.specs.Prelude.{◌≡◌};
 use crate::{Failed, Source};
 use std::io::Read;
 
-/// A reader of the system, as the standard input. It tells what the reader tells.
+/// A reader of the system, as the standard input. It reports what the reader reports.
 #[derive(Drop)]
 pub struct StdSource<R> {
     reader: R,

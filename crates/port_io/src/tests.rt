@@ -1,66 +1,8 @@
-// Loops as the crates above write them, and what no clause says.
-ghost use Rattle.std.specs.Prelude.{◌<◌, ◌≤◌, ℕ, length, IfOk, OnOk, OnErr, IfSome, IsErrOf, take};
-ghost use Rattle.std.specs.Io.KnownBytes.{Consumes, Appends, IsAtEnd};
-ghost use Rattle.port_io.specs.Faults.{Rose, NeverFalls, OnlyWhereRose};
-
+// What no clause says, and each generic call once at a concrete type.
 use super::*;
-use std::alloc::Global;
 use std::io;
 use std::io::{Read, Write};
 use std::test::Fail;
-
-const BLOCK: usize = 8;
-
-#[derive(Debug, Drop, PartialEq)]
-enum ReadError {
-    Fault,
-    TooLong,
-    NoMemory,
-}
-
-/// Reads a source to its end, in blocks, up to a limit.
-fn read_all<S: Source>(alloc: Global, source: &mut S, limit: usize) -> Result<Vec<u8>, ReadError>
-    ensures all { IfOk result (λ bytes. Consumes (S.left source.old) (S.left source.new) bytes.items) }
-    ensures end { OnOk result (IsAtEnd (S.left source.new)) }
-    ensures within { IfOk result (λ bytes. length bytes.items ≤ limit) }
-    ensures fault { OnlyWhereRose (IsErrOf result ReadError.Fault) (S.faults source.old) (S.faults source.new) }
-    ensures too_long { IsErrOf result ReadError.TooLong → IfSome (S.left source.old) (λ left. limit < length left) }
-    ensures count { NeverFalls (S.faults source.old) (S.faults source.new) }
-{
-    let mut bytes = Vec::new(alloc);
-    let mut block = [0u8; BLOCK];
-    'reading: while bytes.len() <= limit {
-        let n = match source.take(&mut block) {
-            Ok(n) => n,
-            Err(Failed) => return Err(ReadError::Fault),
-        };
-        if n == 0 {
-            return Ok(bytes);
-        }
-        if bytes.extend_from_slice(&block[..n]).is_err() {
-            return Err(ReadError::NoMemory);
-        }
-    }
-    Err(ReadError::TooLong)
-}
-
-/// Writes a whole piece.
-fn write_all<K: Sink>(sink: &mut K, piece: &[u8]) -> Result<(), Failed>
-    ensures all { OnOk result (Appends (K.written sink.old) (K.written sink.new) piece.now) }
-    ensures prefix { OnErr result ((n : ℕ) × (n < length piece.now) × Appends (K.written sink.old) (K.written sink.new) (take n piece.now)) }
-    ensures fault { OnErr result (Rose (K.faults sink.old) (K.faults sink.new)) }
-    ensures count { NeverFalls (K.faults sink.old) (K.faults sink.new) }
-{
-    let mut at = 0;
-    'pieces: while at < piece.len() {
-        let n = sink.put(&piece[at..])?;
-        if n == 0 {
-            return Err(Failed);
-        }
-        at += n;
-    }
-    Ok(())
-}
 
 #[test]
 fn a_source_gives_its_bytes_and_then_the_end(rt: HostRuntime) -> Result<(), Fail> {
@@ -117,26 +59,27 @@ fn a_sink_takes_what_it_has_room_for(rt: HostRuntime) -> Result<(), Fail> {
     Ok(())
 }
 
-// More than two blocks, read whole, then with a failing second call, then past a limit.
+// Three blocks: read whole, with a failing call for a block or for the end, and past a limit.
 #[test]
-fn a_reader_of_blocks_ends(rt: HostRuntime) -> Result<(), Fail> {
+fn a_source_is_read_in_blocks_to_its_end_or_past_the_limit(rt: HostRuntime) -> Result<(), Fail> {
     let alloc = rt.alloc();
-    let text = b"twenty bytes of text";
+    let text = vec![in alloc; b'x'; 40_000]?;
     for (fail, limit, outcome) in [
-        (9, 20, Ok(20)),
-        (2, 20, Err(ReadError::Fault)),
-        (9, 19, Err(ReadError::TooLong)),
+        (9, 40_000, Ok(40_000)),
+        (2, 40_000, Err(ReadError::Fault)),
+        (4, 40_000, Err(ReadError::Fault)),
+        (9, 20_000, Ok(32_768)),
     ] {
         let fail = [fail].to_vec(alloc)?;
-        let mut source = MemorySource::new(text.to_vec(alloc)?, fail);
-        let found = read_all(alloc, &mut source, limit).map(|bytes| bytes.len());
+        let mut source = MemorySource::new(text.clone()?, fail);
+        let found = read_source(alloc, &mut source, limit).map(|bytes| bytes.len());
         assert_eq!(rt; found, outcome);
     }
     Ok(())
 }
 
 #[test]
-fn a_writer_of_pieces_stops_at_a_full_sink(rt: HostRuntime) -> Result<(), Fail> {
+fn a_piece_is_written_whole_or_up_to_the_fault(rt: HostRuntime) -> Result<(), Fail> {
     let alloc = rt.alloc();
     for (room, outcome, written) in [(5, Ok(()), "hello"), (4, Err(Failed), "hell")] {
         let mut sink = MemorySink::new(alloc, room, Vec::new(alloc))?;
@@ -146,17 +89,18 @@ fn a_writer_of_pieces_stops_at_a_full_sink(rt: HostRuntime) -> Result<(), Fail> 
     Ok(())
 }
 
-/// A stream that fails at every other call, and else gives or takes one byte.
+/// A stream that fails at every second call, and otherwise gives or takes one byte.
 #[derive(Drop)]
 struct Flaky {
     bytes: Vec<u8>,
-    turn: bool,
+    works_next: bool,
 }
 
 impl Flaky {
     fn works(&mut self) -> io::Result<()> {
-        self.turn = !self.turn;
-        if self.turn {
+        let works = self.works_next;
+        self.works_next = !works;
+        if works {
             Ok(())
         } else {
             Err(io::Error::from(io::ErrorKind::BrokenPipe))
@@ -198,11 +142,11 @@ impl Write for Flaky {
 }
 
 #[test]
-fn a_stream_of_the_system_passes_its_answers_on(rt: HostRuntime) -> Result<(), Fail> {
+fn a_stream_of_the_system_passes_its_results_on(rt: HostRuntime) -> Result<(), Fail> {
     let alloc = rt.alloc();
     let mut source = StdSource::new(Flaky {
         bytes: b"ba".to_vec(alloc)?,
-        turn: false,
+        works_next: true,
     });
     let mut buf = [0; 4];
     for outcome in [Ok(1), Err(Failed), Ok(1), Err(Failed), Ok(0)] {
@@ -211,7 +155,7 @@ fn a_stream_of_the_system_passes_its_answers_on(rt: HostRuntime) -> Result<(), F
     assert_eq!(rt; buf[0], b'b');
     let mut sink = StdSink::new(Flaky {
         bytes: Vec::new(alloc),
-        turn: false,
+        works_next: true,
     });
     for outcome in [Ok(1), Err(Failed), Ok(1)] {
         assert_eq!(rt; sink.put(b"xy"), outcome);

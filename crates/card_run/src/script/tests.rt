@@ -2,7 +2,7 @@ use super::*;
 use std::test::Fail;
 
 // The statements of a script, each as its line number and its bytes, or what is at fault.
-fn told(alloc: Global, text: &[u8]) -> Result<String, AllocError> {
+fn shown(alloc: Global, text: &[u8]) -> Result<String, AllocError> {
     match read_script(alloc, text) {
         Ok(script) => statements(alloc, &script),
         Err(fault) => format!(in alloc; "{fault}"),
@@ -68,8 +68,8 @@ fn texts_read_as_the_language_says(rt: HostRuntime) -> Result<(), Fail> {
         (b"\n\n# note\nport 1: 0\n", "line 4: grammar"),
     ];
     for (text, want) in rows {
-        let shown = told(rt.alloc(), text)?;
-        assert_eq!(rt; shown.as_str(), want, "of {text:?}");
+        let text_read = shown(rt.alloc(), text)?;
+        assert_eq!(rt; text_read.as_str(), want, "of {text:?}");
     }
     Ok(())
 }
@@ -89,8 +89,8 @@ fn a_command_has_1024_bytes_at_most(rt: HostRuntime) -> Result<(), Fail> {
     assert_eq!(rt; script.len(), 1);
     assert_eq!(rt; script.statement(0).apdu.len(), 1024);
     let over = padded(rt.alloc(), b"port 1: ", b'0', 2050)?;
-    let shown = told(rt.alloc(), over.as_slice())?;
-    assert_eq!(rt; shown.as_str(), "line 1: grammar");
+    let text_read = shown(rt.alloc(), over.as_slice())?;
+    assert_eq!(rt; text_read.as_str(), "line 1: grammar");
     Ok(())
 }
 
@@ -118,8 +118,8 @@ fn a_script_has_20000_statements_at_most(rt: HostRuntime) -> Result<(), Fail> {
     ];
     for (text, want) in rows {
         let over = full(rt.alloc(), text)?;
-        let shown = told(rt.alloc(), over.as_slice())?;
-        assert_eq!(rt; shown.as_str(), want, "of {text:?}");
+        let text_read = shown(rt.alloc(), over.as_slice())?;
+        assert_eq!(rt; text_read.as_str(), want, "of {text:?}");
     }
     Ok(())
 }
@@ -129,18 +129,19 @@ fn a_script_has_8388608_bytes_at_most(rt: HostRuntime) -> Result<(), Fail> {
     // A comment up to the limit, and one byte past it.
     let most = padded(rt.alloc(), b"port 1: 00\n#", b'x', 8_388_596)?;
     assert_eq!(rt; most.len(), 8_388_608);
-    let shown = told(rt.alloc(), most.as_slice())?;
-    assert_eq!(rt; shown.as_str(), "1 00,");
+    let text_read = shown(rt.alloc(), most.as_slice())?;
+    assert_eq!(rt; text_read.as_str(), "1 00,");
     let over = padded(rt.alloc(), b"port 1: 00\n#", b'x', 8_388_597)?;
-    let shown = told(rt.alloc(), over.as_slice())?;
-    assert_eq!(rt; shown.as_str(), "line 2: too long");
+    let text_read = shown(rt.alloc(), over.as_slice())?;
+    assert_eq!(rt; text_read.as_str(), "line 2: too long");
 
-    // It is told before a faulty line, also where the byte past the limit begins a line or ends one.
+    // It is reported before a faulty line, also where the byte past the limit begins a line or
+    // ends one.
     let faulty = padded(rt.alloc(), b"port 2: 00\n#", b'x', 8_388_597)?;
-    let shown = told(rt.alloc(), faulty.as_slice())?;
-    assert_eq!(rt; shown.as_str(), "line 2: too long");
+    let text_read = shown(rt.alloc(), faulty.as_slice())?;
+    assert_eq!(rt; text_read.as_str(), "line 2: too long");
     let empty = padded(rt.alloc(), b"", b'\n', 8_388_609)?;
-    let shown = told(rt.alloc(), empty.as_slice())?;
-    assert_eq!(rt; shown.as_str(), "line 8388609: too long");
+    let text_read = shown(rt.alloc(), empty.as_slice())?;
+    assert_eq!(rt; text_read.as_str(), "line 8388609: too long");
     Ok(())
 }

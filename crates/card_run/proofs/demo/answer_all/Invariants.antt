@@ -1,4 +1,4 @@
-use Rattle.std.proofs.Common.{◌≤◌, map, take}
+use Rattle.std.proofs.Common.{◌≤◌, take}
 use Rattle.card_run.proofs.DemoLemmas.{RunSoFar}
 use Rattle.card_run.proofs.demo.answer_all.Given as goal
 

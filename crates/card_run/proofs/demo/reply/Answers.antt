@@ -1,20 +1,26 @@
-use Rattle.std.proofs.Common.{◌≡◌, inl, ◌∙◌, ap, Some}
+use Rattle.std.proofs.Common.{◌≡◌, ◌++◌, ℕ, List, [], Some, None, inl, inr, ap, ◌∙◌}
 use Rattle.apdu_codec.specs.Command.{apdu_of}
-use Rattle.profile_card.proofs.StepLemmas.{HasRoomFor-decision}
-use Rattle.profile_card.specs.Card.{Card}
+use Rattle.apdu_codec.specs.declared.status.Sw.{Sw}
+use Rattle.profile_card.specs.Card.{Card, settled}
 use Rattle.profile_card.specs.CardState.{card_of}
-use Rattle.profile_card.specs.Step.{Outcome, answering}
+use Rattle.profile_card.specs.Step.{answering}
+use Rattle.card_run.specs.Demo.{answer_line}
 use Rattle.card_run.proofs.demo.reply.Goals as goal
 
-pub settle-requires-clause-room : goal.settle-requires-clause-room
-settle-requires-clause-room c =
-    HasRoomFor-decision c.args.card.now (apdu_of c.in-Ok.command) c.decide-decided.result c.decide-decided.ensures.decision
-
 -- what was decided was carried out
-pub returns-in-Ok : goal.returns-in-Ok
-returns-in-Ok c =
+pub returns-in_ok-reserve-in-Ok-clause-given : goal.returns-in_ok-reserve-in-Ok-clause-given
+returns-in_ok-reserve-in-Ok-clause-given c =
     let decided = c.decide-decided.result in
+    let after : card_of c.settle.new.self ≡ settled (card_of c.args.card.now) decided =
+    c.settle.ensures ∙ ap (λ (card : Card). settled card decided) c.in_ok-reserve-in-Ok.ensures.card in
+    let carried_out : record { answer = Some decided.answer; card = card_of c.settle.new.self; change = decided.change } ≡ answering (card_of c.args.card.now) decided =
+    ap (λ (after : Card). record { answer = Some decided.answer; card = after; change = decided.change }) after in
+    let line : c.push_answer.new.text.items ≡ c.args.text.now.items ++ answer_line c.args.number decided.answer =
+    c.in_ok-push_answer-in-Ok.ensures ∙ ap (λ (body : List ℕ). c.args.text.now.items ++ answer_line c.args.number (record { body = body; sw = decided.answer.sw })) c.as_slice.ensures.value in
+    (decided.answer, (decided.change, inl (apdu_of c.in-Ok.command, c.in-Ok.ensures.spelled, carried_out ∙ ap (answering (card_of c.args.card.now)) c.decide-decided.ensures.decision)), line)
+
+-- the refusal of bytes that spell no command
+pub returns-in_ok-push_answer-in-Err-clause-given : goal.returns-in_ok-push_answer-in-Err-clause-given
+returns-in_ok-push_answer-in-Err-clause-given c =
     let card = card_of c.args.card.now in
-    let carried_out : record { answer = Some decided.answer; card = card_of c.settle.new.self; change = decided.change } ≡ answering card decided =
-    ap (λ (after : Card). record { answer = Some decided.answer; card = after; change = decided.change }) c.settle.ensures in
-    (decided.change, inl (apdu_of c.in-Ok.command, c.in-Ok.ensures.spelled, carried_out ∙ ap (answering card) c.decide-decided.ensures.decision))
+    (record { body = []; sw = c.in-Err.sw }, (None, inr (c.in-Err.ensures.none, ap (λ (sw : Sw). record { answer = Some (record { body = []; sw = sw }); card = card; change = None }) c.in-Err.ensures.refused)), c.in_ok-push_answer-in-Err.ensures)

@@ -1,6 +1,6 @@
-use Rattle.std.proofs.Common.{◌≡◌, [], ◌∷◌, List, ℕ, ◌∙◌, ap, sym}
+use Rattle.std.proofs.Common.{[], ◌∷◌, List, ℕ, ◌∙◌, ap, sym}
 use Rattle.std.proofs.lemmas.Slice.Eq.{bytes_eq-Decides}
-use Rattle.std.specs.Prelude.{codes, string_bytes}
+use Rattle.std.specs.Prelude.{codes}
 use Rattle.card_run.proofs.WordsLemmas.{first, of_one}
 use Rattle.card_run.proofs.words.is_demo.Goals as goal
 

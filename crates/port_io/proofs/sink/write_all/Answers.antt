@@ -3,7 +3,7 @@ use Rattle.std.specs.Io.KnownBytes.{Appends}
 use Rattle.std.proofs.KnownBytes.{Appends-trans}
 use Rattle.std.proofs.Math.Seq.{take-add}
 use Rattle.std.proofs.lemmas.List.{take_rest}
-use Rattle.card_run.proofs.output.write_all.Goals as goal
+use Rattle.port_io.proofs.sink.write_all.Goals as goal
 
 take-more : (bytes : List ℕ) (at n : ℕ) → take at bytes ++ take n (take (length bytes - at) (drop at bytes)) ≡ take (at + n) bytes
 take-more bytes at n = ap (λ (rest : List ℕ). take at bytes ++ take n rest) (take_rest bytes at) ∙ sym (take-add at n bytes)

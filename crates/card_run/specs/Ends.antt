@@ -1,0 +1,96 @@
+-- How a run of the program ends: with which number, for which cause, and what it leaves as it was.
+use Rattle.std.specs.Prelude.{◌≡◌, ℕ, Option, List, IfSome, String, ⊤}
+use Rattle.std.specs.Io.KnownBytes.{Appends, IsAtEnd}
+use Rattle.std.specs.declared.alloc.Global.{Global}
+use Rattle.port_io.specs.Faults.{Rose}
+use Rattle.card_run.specs.Demo.{IsAnswerText, IsDemo}
+use Rattle.card_run.specs.Script.{HasFirstFault, IsSomeScript}
+use Rattle.card_run.specs.declared.status.Status.{Status}
+use Rattle.card_run.specs.declared.status.Status.TheVariants.{Done, Usage, Script, ReadFault}
+use Rattle.card_run.specs.declared.status.Status.TheVariants.{WriteFault, NoMemory}
+
+-- the number with which the process ends
+abbrev pub status_number : Status → ℕ
+status_number Done = 0
+status_number Usage = 2
+status_number (Script line kind) = 3
+status_number ReadFault = 4
+status_number WriteFault = 5
+status_number NoMemory = 8
+
+-- a source and a sink at a moment: the bytes left and the bytes written, where they are reported,
+-- and the faults so far
+pub record Streams : Type 0 where
+  pub left : Option (List ℕ)
+  pub read_faults : ℕ
+  pub written : Option (List ℕ)
+  pub write_faults : ℕ
+
+abbrev pub streams : Option (List ℕ) → ℕ → Option (List ℕ) → ℕ → Streams
+streams left read_faults written write_faults =
+    record {
+      left = left;
+      read_faults = read_faults;
+      written = written;
+      write_faults = write_faults;
+    }
+
+-- why a run of `demo` ends so; out of memory alone needs no cause
+abbrev pub HasRunCause : Streams → Streams → Status → Type 0
+HasRunCause before after Usage = ⊥
+HasRunCause before after (Script line kind) =
+    IfSome before.left (λ text. HasFirstFault text line kind)
+HasRunCause before after ReadFault = Rose before.read_faults after.read_faults
+HasRunCause before after WriteFault =
+    IfSome before.left IsSomeScript × Rose before.write_faults after.write_faults
+HasRunCause before after NoMemory = ⊤
+-- all was read, and the whole text of the answers was written
+HasRunCause before after Done =
+    IsAtEnd after.left
+    × IfSome before.left (λ script. (text : List ℕ)
+    × IsAnswerText script text × Appends before.written after.written text)
+
+-- why the program ends so: Usage where the words are not `demo`, any other status where they are
+abbrev pub HasCause : List (String Global) → Streams → Streams → Status → Type 0
+HasCause words before after Usage = ¬ IsDemo words
+HasCause words before after status = IsDemo words × HasRunCause before after status
+
+-- how a text ends a run without faults: a script is done, any other text is refused with its first
+-- fault, and memory may run out
+abbrev pub IsEndOf : List ℕ → Status → Type 0
+IsEndOf text Done = IsSomeScript text
+IsEndOf text (Script line kind) = HasFirstFault text line kind
+IsEndOf text NoMemory = ⊤
+IsEndOf text Usage = ⊥
+IsEndOf text ReadFault = ⊥
+IsEndOf text WriteFault = ⊥
+
+-- what stays as it was: the source and the sink at Usage, and the sink where no script was read
+abbrev pub LeavesAlone : {S K : Type 0} → Option (List ℕ) → S → S → K → K → Status → Type 0
+LeavesAlone left source source_after sink sink_after Usage =
+    (source_after ≡ source) × (sink_after ≡ sink)
+LeavesAlone left source source_after sink sink_after (Script line kind) = sink_after ≡ sink
+LeavesAlone left source source_after sink sink_after ReadFault = sink_after ≡ sink
+LeavesAlone left source source_after sink sink_after NoMemory =
+    IfSome left (λ text. ¬ IsSomeScript text → sink_after ≡ sink)
+LeavesAlone left source source_after sink sink_after WriteFault = ⊤
+LeavesAlone left source source_after sink sink_after Done = ⊤
+
+-- why no script was read from a source
+abbrev pub HasLoadCause : Option (List ℕ) → ℕ → ℕ → Status → Type 0
+HasLoadCause left before after (Script line kind) =
+    IfSome left (λ text. HasFirstFault text line kind)
+HasLoadCause left before after ReadFault = Rose before after
+HasLoadCause left before after NoMemory = ⊤
+HasLoadCause left before after Done = ⊥
+HasLoadCause left before after Usage = ⊥
+HasLoadCause left before after WriteFault = ⊥
+
+-- why the answers were not all written to a sink
+abbrev pub HasWriteCause : ℕ → ℕ → Status → Type 0
+HasWriteCause before after WriteFault = Rose before after
+HasWriteCause before after NoMemory = ⊤
+HasWriteCause before after (Script line kind) = ⊥
+HasWriteCause before after ReadFault = ⊥
+HasWriteCause before after Done = ⊥
+HasWriteCause before after Usage = ⊥
