@@ -1,12 +1,12 @@
 use Rattle.std.proofs.Common.{◌≡◌, ◌≤◌, ⊎_elim, ℕ, List, [], ◌∷◌, length, map, Contains, subst, arith}
 use Rattle.std.specs.List.{AllByRecursion}
-use Rattle.fcp_codec.specs.Writing.{written}
+use Rattle.fcp_codec.specs.Writing.{written_fcp}
 use Rattle.file_rows.specs.Content.{heads_of}
 use Rattle.file_rows.specs.FileHead.{IsFile}
 use Rattle.file_rows.specs.declared.head.FileHead.{FileHead}
 use Rattle.file_rows.specs.declared.pin.PinRow.{PinRow}
 use Rattle.file_rows.specs.declared.row.FileRow.{FileRow}
-use Rattle.uicc_tree.proofs.FindLemmas.{contains_cases}
+use Rattle.file_rows.proofs.ListLemmas.{contains_cases}
 use Rattle.uicc_tree.specs.Change.{AreRows}
 use Rattle.uicc_tree.specs.Files.{Files, IsLive, file_of, rows_of}
 
@@ -29,5 +29,5 @@ live_is_file tree node either live =
     ⊎_elim (λ files. at_node (file_of tree) tree.nodes node files.each live) (λ none. absurd (none_there tree node none live)) either
 
 -- control parameters are never empty
-pub written_some : (head : FileHead) (pins : List PinRow) → 1 ≤ length (written head pins)
+pub written_some : (head : FileHead) (pins : List PinRow) → 1 ≤ length (written_fcp head pins)
 written_some head pins = omega arith

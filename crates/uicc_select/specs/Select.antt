@@ -5,7 +5,7 @@ use Rattle.apdu_codec.specs.Command.{Apdu}
 use Rattle.apdu_codec.specs.declared.answers.Answer.{Answer}
 use Rattle.apdu_codec.specs.declared.status.Sw.{Sw}
 use Rattle.apdu_codec.specs.declared.status.TheConstants.Sw.{FILE_NOT_FOUND, OK, SELECTED_DEACTIVATED, SELECTED_TERMINATED}
-use Rattle.fcp_codec.specs.Writing.{written}
+use Rattle.fcp_codec.specs.Writing.{written_fcp}
 use Rattle.file_rows.specs.FileHead.{holds_files}
 use Rattle.file_rows.specs.Path.{master, parent_of}
 use Rattle.file_rows.specs.declared.head.FileHead.{FileHead}
@@ -98,7 +98,7 @@ names_isdr (FromCurrent ids) = false
 
 -- the control parameters of what is selected, where they are asked for
 abbrev pub parameters_for : ℕ → List PinRow → FileRow → Option (List ℕ)
-parameters_for p2 pins row = if p2 == 0x04 then Some (written row.head pins) else None
+parameters_for p2 pins row = if p2 == 0x04 then Some (written_fcp row.head pins) else None
 
 -- what a target comes to: why it isn't there, why it may be refused where it is, and what selecting it comes to
 pub record Selection : Type 0 where

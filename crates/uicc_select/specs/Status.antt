@@ -3,7 +3,7 @@ use Rattle.apdu_codec.specs.Answer.{status_alone}
 use Rattle.apdu_codec.specs.Command.{Apdu}
 use Rattle.apdu_codec.specs.declared.status.Sw.{Sw}
 use Rattle.apdu_codec.specs.declared.status.TheConstants.Sw.{DATA_NOT_FOUND, FILE_NOT_FOUND, OK}
-use Rattle.fcp_codec.specs.Writing.{written}
+use Rattle.fcp_codec.specs.Writing.{written_fcp}
 use Rattle.file_rows.specs.Content.{file_at}
 use Rattle.file_rows.specs.Find.{file_of_path}
 use Rattle.file_rows.specs.declared.pin.PinRow.{PinRow}
@@ -28,7 +28,7 @@ name_object name = 0x84 ∷ length name ∷ name
 
 -- the control parameters of the current directory, where there is one
 abbrev pub parameters_of_directory : List FileRow → List PinRow → Chan → Option (List ℕ)
-parameters_of_directory rows pins chan = option_map (λ row. written row.head pins) (file_at chan.dir rows)
+parameters_of_directory rows pins chan = option_map (λ row. written_fcp row.head pins) (file_at chan.dir rows)
 
 -- the name of the channel's application, where there is one
 abbrev pub name_of_application : List FileRow → Chan → Option (List ℕ)

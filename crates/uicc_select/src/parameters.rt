@@ -1,5 +1,5 @@
 ghost use Rattle.std.specs.Prelude.{◌≡◌, ◌≤◌, length};
-ghost use Rattle.fcp_codec.specs.Writing.{written};
+ghost use Rattle.fcp_codec.specs.Writing.{written_fcp};
 ghost use Rattle.uicc_tree.specs.Change.{AreRows};
 ghost use Rattle.uicc_tree.specs.Files.{IsLive, file_of, rows_of};
 
@@ -15,7 +15,7 @@ pub(crate) type Parameters = ShortList<u8, 130>;
 pub(crate) fn parameters_of(tree: &Tree, pins: &[PinRow], node: u32) -> Parameters
     requires files { AreRows (rows_of tree.now) }
     requires live { IsLive tree.now node }
-    ensures value { result ≡ written (file_of tree.now node).head pins.now }
+    ensures value { result ≡ written_fcp (file_of tree.now node).head pins.now }
     ensures some { 1 ≤ length result }
 {
     put_fcp(tree.head(node), pins)
