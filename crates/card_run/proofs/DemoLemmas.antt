@@ -7,8 +7,8 @@ use Rattle.apdu_codec.specs.declared.answers.Answer.{Answer}
 use Rattle.profile_card.specs.Card.{Card}
 use Rattle.profile_card.specs.CardState.{CardState, card_of}
 use Rattle.profile_card.specs.Sample.{sample_card}
-use Rattle.profile_card.specs.Step.{Gives, Runs, RunsTo}
-use Rattle.profile_card.proofs.RunLemmas.{RunsTo-front, RunsTo-more}
+use Rattle.profile_card.specs.Step.{AnswersWith, Runs, RunsTo}
+use Rattle.profile_card.proofs.RunLemmas.{RunsTo-prefix, RunsTo-more}
 use Rattle.card_run.specs.Demo.{IsRun, WritesPrefix, answer_line, answer_lines, demo_text}
 use Rattle.card_run.specs.Script.{ScriptStatement}
 
@@ -66,7 +66,7 @@ start before card e = record { answers = []; run = e; written = []; appended = A
 -- one more statement is answered, and its line gathered
 pub answered : (script : List ScriptStatement) (index : ℕ) (statement : ScriptStatement) (card next : CardState) (before now : Option (List ℕ)) (block longer : List ℕ) (answer : Answer)
     → RunSoFar (take index script) card before now block → slice_get script index ≡ Some statement → index < length script
-    → Gives (card_of card) statement.apdu answer (card_of next) → longer ≡ block ++ answer_line (index + 1) answer
+    → AnswersWith (card_of card) statement.apdu answer (card_of next) → longer ≡ block ++ answer_line (index + 1) answer
     → RunSoFar (take (index + 1) script) next before now longer
 answered script index statement card next before now block longer answer so_far found within given line =
     let commands : apdus (take (index + 1) script) ≡ apdus (take index script) ++ statement.apdu ∷ [] =
@@ -109,7 +109,7 @@ pub stopped : (script : List ScriptStatement) (index : ℕ) (card : CardState) (
     → RunSoFar (take index script) card before now block → Appends now new (take n block) → n ≤ length block → IsRun script answers → WritesPrefix before new (demo_text answers)
 stopped script index card before now new block n answers so_far more within run =
     let commands : apdus (take index script) ++ apdus (drop index script) ≡ apdus script = sym (map-append (λ (s : ScriptStatement). s.apdu) (take index script) (drop index script)) ∙ ap apdus (take-append-drop index script) in
-    let rest = RunsTo-front (apdus (take index script)) (apdus (drop index script)) sample_card (card_of card) so_far.answers answers so_far.run (subst (λ (commands : List (List ℕ)). Runs sample_card commands answers) (sym commands) run) in
+    let rest = RunsTo-prefix (apdus (take index script)) (apdus (drop index script)) sample_card (card_of card) so_far.answers answers so_far.run (subst (λ (commands : List (List ℕ)). Runs sample_card commands answers) (sym commands) run) in
     let text : demo_text answers ≡ (so_far.written ++ block) ++ answer_lines (1 + length so_far.answers) rest.0 =
     ap demo_text rest.1 ∙ (answer_lines-append so_far.answers rest.0 1 ∙ ap (λ (text : List ℕ). text ++ answer_lines (1 + length so_far.answers) rest.0) so_far.text) in
     let written : so_far.written ++ take n block ≡ take (length so_far.written + n) (demo_text answers) = rw text (prefix_of so_far.written block (answer_lines (1 + length so_far.answers) rest.0) (length so_far.written + n) n refl within) in

@@ -6,7 +6,7 @@ ghost use Rattle.file_rows.specs.Change.{Fits};
 ghost use Rattle.port_io.specs.Faults.{FailsOnlyWhereRose, NeverFalls, Rose};
 ghost use Rattle.port_io.specs.Sink.{TakesPart};
 ghost use Rattle.profile_card.specs.CardState.{HasRoomFor, card_of, content_of};
-ghost use Rattle.profile_card.specs.Step.{Gives};
+ghost use Rattle.profile_card.specs.Step.{AnswersWith};
 ghost use Rattle.card_run.specs.Demo.{IsAnswerText, IsDemo, IsRun, WritesPrefix, answer_line};
 ghost use Rattle.card_run.specs.Demo.{demo_text};
 ghost use Rattle.card_run.specs.Ends.{HasCause, HasLoadCause, HasWriteCause, IsEndOf, LeavesAlone};
@@ -51,7 +51,7 @@ fn reply(
     room: &mut [u8; MAX_BODY_DIGITS],
 ) -> Result<(), NoMemory>
     ensures given { OnOk result ((answer : Answer)
-        × Gives (card_of card.old) bytes.now answer (card_of card.new)
+        × AnswersWith (card_of card.old) bytes.now answer (card_of card.new)
         × (text.new.items ≡ text.old.items ++ answer_line number answer)) }
     ensures as_before { OnErr result (card_of card.new ≡ card_of card.old) }
 {

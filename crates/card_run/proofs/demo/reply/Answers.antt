@@ -1,9 +1,11 @@
-use Rattle.std.proofs.Common.{◌≡◌, ◌++◌, ℕ, List, [], Some, None, inl, inr, ap, ◌∙◌}
-use Rattle.apdu_codec.specs.Command.{apdu_of}
+use Rattle.std.proofs.Common.{◌≡◌, ◌++◌, ℕ, List, [], Some, None, inr, ap, subst, sym, ◌∙◌}
+use Rattle.apdu_codec.specs.Command.{Apdu, apdu_of}
 use Rattle.apdu_codec.specs.declared.status.Sw.{Sw}
-use Rattle.profile_card.specs.Card.{Card, settled}
+use Rattle.profile_card.specs.Card.{Card, outcome_at}
 use Rattle.profile_card.specs.CardState.{card_of}
-use Rattle.profile_card.specs.Step.{answering}
+use Rattle.profile_card.specs.Commands.{decision}
+use Rattle.profile_card.specs.Step.{Outcome, Steps}
+use Rattle.profile_card.specs.Step.Event.{Command}
 use Rattle.card_run.specs.Demo.{answer_line}
 use Rattle.card_run.proofs.demo.reply.Goals as goal
 
@@ -11,13 +13,14 @@ use Rattle.card_run.proofs.demo.reply.Goals as goal
 pub returns-in_ok-reserve-in-Ok-clause-given : goal.returns-in_ok-reserve-in-Ok-clause-given
 returns-in_ok-reserve-in-Ok-clause-given c =
     let decided = c.decide-decided.result in
-    let after : card_of c.settle.new.self ≡ settled (card_of c.args.card.now) decided =
-    c.settle.ensures ∙ ap (λ (card : Card). settled card decided) c.in_ok-reserve-in-Ok.ensures.card in
-    let carried_out : record { answer = Some decided.answer; card = card_of c.settle.new.self; change = decided.change } ≡ answering (card_of c.args.card.now) decided =
-    ap (λ (after : Card). record { answer = Some decided.answer; card = after; change = decided.change }) after in
+    let command : Apdu = apdu_of c.in-Ok.command in
+    let same = c.in_ok-reserve-in-Ok.ensures.card in
+    let outcome : Outcome = record { answer = Some decided.answer; card = card_of c.settle.new.self; change = decided.change } in
+    let step = c.settle.ensures.step c.args.bytes.now command c.in-Ok.ensures.spelled
+        (subst (λ (card : Card). outcome_at card decided ≡ decision card command) (sym same) c.decide-decided.ensures.decision) in
     let line : c.push_answer.new.text.items ≡ c.args.text.now.items ++ answer_line c.args.number decided.answer =
     c.in_ok-push_answer-in-Ok.ensures ∙ ap (λ (body : List ℕ). c.args.text.now.items ++ answer_line c.args.number (record { body = body; sw = decided.answer.sw })) c.as_slice.ensures.value in
-    (decided.answer, (decided.change, inl (apdu_of c.in-Ok.command, c.in-Ok.ensures.spelled, carried_out ∙ ap (answering (card_of c.args.card.now)) c.decide-decided.ensures.decision)), line)
+    (decided.answer, (decided.change, subst (λ (card : Card). Steps card (Command c.args.bytes.now) outcome) same step), line)
 
 -- the refusal of bytes that spell no command
 pub returns-in_ok-push_answer-in-Err-clause-given : goal.returns-in_ok-push_answer-in-Err-clause-given
