@@ -17,7 +17,7 @@ returns-in_ok-reserve-in-Ok-clause-given c =
     let same = c.in_ok-reserve-in-Ok.ensures.card in
     let outcome : Outcome = record { answer = Some decided.answer; card = card_of c.settle.new.self; change = decided.change } in
     let step = c.settle.ensures.step c.args.bytes.now command c.in-Ok.ensures.spelled
-        (subst (λ (card : Card). outcome_at card decided ≡ decision card command) (sym same) c.decide-decided.ensures.decision) in
+    (subst (λ (card : Card). outcome_at card decided ≡ decision card command) (sym same) c.decide-decided.ensures.decision) in
     let line : c.push_answer.new.text.items ≡ c.args.text.now.items ++ answer_line c.args.number decided.answer =
     c.in_ok-push_answer-in-Ok.ensures ∙ ap (λ (body : List ℕ). c.args.text.now.items ++ answer_line c.args.number (record { body = body; sw = decided.answer.sw })) c.as_slice.ensures.value in
     (decided.answer, (decided.change, subst (λ (card : Card). Steps card (Command c.args.bytes.now) outcome) same step), line)
