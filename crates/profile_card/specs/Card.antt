@@ -10,7 +10,8 @@ use Rattle.uicc_channels.specs.Session.{Suits}
 use Rattle.uicc_channels.specs.declared.decided.Decided.{Decided}
 use Rattle.uicc_channels.specs.declared.session.Session.{Session}
 
--- a card of one profile: what it holds, its session, how the ports are shared, and its port, where it stands on one
+-- a card of one profile: what it holds, its session, how the ports are shared, and its port, where
+-- it stands on one
 pub record Card : Type 0 where
   pub content : Content
   pub session : Session
@@ -35,7 +36,8 @@ content_after content (Some change) = changed content change
 abbrev pub outcome_at : Card → Decided → CommandOutcome
 outcome_at card decided = outcome_of card.session decided
 
--- a card may follow what a command comes to: the change fits it, and the session suits what it then holds
+-- a card may follow what a command comes to: the change fits it, and the session suits what it
+-- then holds
 pub record MayFollow (card : Card) (outcome : CommandOutcome) : Type 0 where
   pub change : IfSome outcome.change (Fits card.content)
   pub session : Suits outcome.session (content_after card.content outcome.change).rows

@@ -10,8 +10,8 @@ use Rattle.uicc_tree.specs.Files.{Files, rows_of}
 use Rattle.profile_card.specs.Card.{Card}
 use Rattle.profile_card.specs.declared.place.Place.{Place}
 
--- what contracts see of a card at a port: its files, with the memory that is reserved among them, its PINs, its session
--- and its place
+-- what contracts see of a card at a port: its files, with the memory that is reserved among them,
+-- its PINs, its session and its place
 pub record CardState : Type 0 where
   pub tree : Files
   pub pins : List PinRow
@@ -24,7 +24,12 @@ content_of state = record { rows = rows_of state.tree; pins = state.pins }
 -- the card that it is
 abbrev pub card_of : CardState → Card
 card_of state =
-    record { content = content_of state; session = state.session; mode = state.place.mode; port = Some state.place.port }
+    record {
+      content = content_of state;
+      session = state.session;
+      mode = state.place.mode;
+      port = Some state.place.port;
+    }
 
 -- the memory that a change needs is reserved
 abbrev pub HasRoomFor : CardState → Option Change → Type 0

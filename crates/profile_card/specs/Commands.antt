@@ -24,7 +24,8 @@ unknown_row session c =
 -- an instruction that a channel knows unless the ISD-R is selected on it
 abbrev pub not_at_isdr : Session → Apdu → CommandRow → CommandRow
 not_at_isdr session c row =
-    record row { needs = record row.needs { instruction = not (open_channel session c.channel).isdr } }
+    let known = not (open_channel session c.channel).isdr in
+    record row { needs = record row.needs { instruction = known } }
 
 -- where the ISD-R is selected, SELECT alone is known
 abbrev pub IsKnownAt : Chan → ℕ → Type 0

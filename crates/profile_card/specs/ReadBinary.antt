@@ -23,13 +23,14 @@ is_transparent Transparent = true
 is_transparent Linear = false
 is_transparent Cyclic = false
 
--- whether a file may be read: the access rules of the sample card's rows 1 and 2 always let read, and no key can be
--- verified yet, so no other row does
+-- whether a file may be read: the access rules of the sample card's rows 1 and 2 always let read,
+-- and no key can be verified yet, so no other row does
 abbrev pub may_read : Option Rule → Bool
 may_read None = false
 may_read (Some rule) = (rule.row == 1) || (rule.row == 2)
 
--- why a body can't be read from an offset, wanting so many bytes: 256 is what an Le of 00 asks for, as many as there are
+-- why a body can't be read from an offset, wanting so many bytes: 256 is what an Le of 00 asks
+-- for, as many as there are
 abbrev pub read_refusal : List ℕ → ℕ → ℕ → Option Sw
 read_refusal body offset le =
     if nat_le (length body) offset then Some WRONG_OFFSET

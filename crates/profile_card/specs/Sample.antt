@@ -27,15 +27,18 @@ sample_head path kind sfi rule record_len size =
 
 -- a file whose body begins so and goes on with FF
 unfoldable pub sample_file : FileHead → List ℕ → FileRow
-sample_file head prefix = record { head = head; body = prefix ++ replicate (head.size - length prefix) 0xFF }
+sample_file head prefix =
+    record { head = head; body = prefix ++ replicate (head.size - length prefix) 0xFF }
 
 -- the ICCID
 abbrev pub iccid : List ℕ
 iccid = 0x98 ∷ 0x94 ∷ 0 ∷ 0 ∷ 0 ∷ 0 ∷ 0 ∷ 0 ∷ 0 ∷ 0xF1 ∷ []
 
--- the access rules' records: read always, and update with key 0A; read and update always; read and update with key 01
+-- the access rules' records: read always, and update with key 0A; read and update always; read and
+-- update with key 01
 abbrev pub read_always : List ℕ
-read_always = 0x80 ∷ 1 ∷ 1 ∷ 0x90 ∷ 0 ∷ 0x80 ∷ 1 ∷ 2 ∷ 0xA4 ∷ 6 ∷ 0x83 ∷ 1 ∷ 0x0A ∷ 0x95 ∷ 1 ∷ 8 ∷ []
+read_always =
+    0x80 ∷ 1 ∷ 1 ∷ 0x90 ∷ 0 ∷ 0x80 ∷ 1 ∷ 2 ∷ 0xA4 ∷ 6 ∷ 0x83 ∷ 1 ∷ 0x0A ∷ 0x95 ∷ 1 ∷ 8 ∷ []
 
 abbrev pub use_always : List ℕ
 use_always = 0x80 ∷ 1 ∷ 3 ∷ 0x90 ∷ 0 ∷ []
@@ -49,7 +52,16 @@ rules = read_always ++ replicate 26 0xFF ++ use_always ++ replicate 37 0xFF ++ u
 -- an enabled PIN at home in the MF, with three tries of three and no PUK
 abbrev pub sample_pin : ℕ → ℕ → List ℕ → PinRow
 sample_pin number key value =
-    record { number = number; home = master; key = key; value = value; max = 3; left = 3; enabled = true; puk = None }
+    record {
+      number = number;
+      home = master;
+      key = key;
+      value = value;
+      max = 3;
+      left = 3;
+      enabled = true;
+      puk = None;
+    }
 
 -- the content of the sample card
 abbrev pub sample : Content
@@ -71,4 +83,5 @@ sample =
 
 -- the sample card as it starts: on port 1 of a card in MEP-A1, with a fresh session
 abbrev pub sample_card : Card
-sample_card = record { content = sample; session = fresh_session false None; mode = A1; port = Some 1 }
+sample_card =
+    record { content = sample; session = fresh_session false None; mode = A1; port = Some 1 }

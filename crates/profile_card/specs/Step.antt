@@ -7,8 +7,9 @@ use Rattle.uicc_channels.specs.Session.{fresh_session}
 use Rattle.profile_card.specs.Card.{Card, card_after}
 use Rattle.profile_card.specs.Commands.{decision}
 
--- what comes to a card: a command APDU, a reset of its port, a power cycle, and that it comes to stand on a port or
--- leaves it (GSMA SGP.22, Multiple Enabled Profiles). With a new port a REFRESH may be asked for, and a channel kept.
+-- what comes to a card: a command APDU, a reset of its port, a power cycle, and that it comes to
+-- stand on a port or leaves it (GSMA SGP.22, Multiple Enabled Profiles). With a new port a REFRESH
+-- may be asked for, and a channel kept.
 pub data Event : Type 0 where
   Command : List ℕ → Event
   Reset : Event
@@ -31,11 +32,13 @@ abbrev pub carried_out : Card → CommandOutcome → Outcome
 carried_out card outcome =
     record { answer = Some outcome.answer; card = card_after card outcome; change = outcome.change }
 
--- what a card answers to these bytes: to a command by its instruction, and to anything else with its refusal
+-- what a card answers to these bytes: to a command by its instruction, and to anything else with
+-- its refusal
 abbrev pub Responds : Card → List ℕ → Outcome → Type 0
 Responds card bytes outcome =
     ((c : Apdu) × Spells bytes c × (outcome ≡ carried_out card (decision card c)))
-    ⊎ (((c : Apdu) → ¬ Spells bytes c) × (outcome ≡ carried_out card (refused card.session (refusal bytes))))
+    ⊎ (((c : Apdu) → ¬ Spells bytes c)
+    × (outcome ≡ carried_out card (refused card.session (refusal bytes))))
 
 -- the card after a reset of its port
 abbrev pub restarted : Card → Card
@@ -60,7 +63,8 @@ Steps card event outcome = StepsAt card.port card event outcome
 -- the card at a port answers these bytes so, and comes to this
 abbrev pub AnswersWith : Card → List ℕ → Answer → Card → Type 0
 AnswersWith card bytes answer after =
-    (change : Option Change) × Steps card (Command bytes) (record { answer = Some answer; card = after; change = change })
+    (change : Option Change)
+    × Steps card (Command bytes) (record { answer = Some answer; card = after; change = change })
 
 -- to these command APDUs, one after another, the card gives these answers, and comes to this
 abbrev pub RunsTo : Card → List (List ℕ) → List Answer → Card → Type 0

@@ -51,8 +51,8 @@ fn is_for_isdr(ins: u8) -> bool
     ins == ins::SELECT
 }
 
-/// The card of one profile at a port, or of none: a blank card. It keeps that what its session names is among its
-/// files. Nothing of it is shared with another card.
+/// The card of one profile at a port, or of none: a blank card. It keeps that what its session
+/// names is among its files. Nothing of it is shared with another card.
 #[derive(Debug, Drop)]
 pub struct Card1 {
     tree: Tree,
@@ -69,9 +69,11 @@ impl Model for Card1 {
 
     ghost Value = { CardState };
 
-    ghost view = { λ c. record { tree = c.tree; pins = c.pins.items; session = c.session; place = c.place } };
+    ghost view = { λ c.
+        record { tree = c.tree; pins = c.pins.items; session = c.session; place = c.place } };
 
-    ghost invariant = { λ c. IsValid (record { rows = rows_of c.tree; pins = c.pins.items }) × Suits c.session (rows_of c.tree) };
+    ghost invariant = { λ c. IsValid (record { rows = rows_of c.tree; pins = c.pins.items })
+        × Suits c.session (rows_of c.tree) };
 }
 
 impl Card1 {
@@ -84,7 +86,12 @@ impl Card1 {
     ) -> Result<Card1, NoMemory>
         requires valid { IsValid content.now }
         requires suits { Suits session content.now.rows }
-        ensures { IfOk result (λ card. card_of card ≡ record { content = content.now; session = session; mode = place.mode; port = Some place.port }) }
+        ensures { IfOk result (λ card. card_of card ≡ record {
+          content = content.now;
+          session = session;
+          mode = place.mode;
+          port = Some place.port;
+        }) }
     {
         let tree = Tree::make(alloc, content.rows.as_slice())?;
         let pins = copy_pins(alloc, content.pins.as_slice())?;
@@ -99,7 +106,12 @@ impl Card1 {
     /// The card at a place where no profile stands: it has no file and no PIN. It takes no memory.
     pub fn blank(alloc: Global, session: Session, place: Place) -> Card1
         requires { Suits session [] }
-        ensures { card_of result ≡ record { content = record { rows = []; pins = [] }; session = session; mode = place.mode; port = Some place.port } }
+        ensures { card_of result ≡ record {
+          content = record { rows = []; pins = [] };
+          session = session;
+          mode = place.mode;
+          port = Some place.port;
+        } }
     {
         Card1 {
             tree: Tree::new(alloc),
@@ -109,14 +121,17 @@ impl Card1 {
         }
     }
 
-    /// What a command comes to: its answer, what it does to the session, and what it changes in the content. The card
-    /// stays as it is; `settle` carries it out.
+    /// What a command comes to: its answer, what it does to the session, and what it changes in
+    /// the content. The card stays as it is; `settle` carries it out.
     ///
-    /// SELECT, STATUS and READ BINARY from an offset (ETSI TS 102 221); any other instruction is answered `6D00`, and
-    /// so is each but SELECT where the ISD-R is selected on the channel. It takes no memory, and copies no session.
+    /// SELECT, STATUS and READ BINARY from an offset (ETSI TS 102 221); any other instruction is
+    /// answered `6D00`, and so is each but SELECT where the ISD-R is selected on the channel. It
+    /// takes no memory, and copies no session.
+    #[inline(never)]
     pub fn decide(&self, command: &Command) -> Decided
         requires { IsCommand command.now }
-        ensures decision { outcome_at (card_of self.now) result ≡ decision (card_of self.now) (apdu_of command.now) }
+        ensures decision { outcome_at (card_of self.now) result
+            ≡ decision (card_of self.now) (apdu_of command.now) }
         ensures may_follow { MayFollow (card_of self.now) (outcome_at (card_of self.now) result) }
     {
         let Some(chan) = self.session.channel_at(command.channel) else {
@@ -128,19 +143,23 @@ impl Card1 {
         self.answer(command)
     }
 
+    #[inline(never)]
     fn select(&self, command: &Command) -> Decided
         requires { IsOpen self.now.session command.now.channel }
         ensures { outcome_of self.now.session result ≡ decided self.now.session
-            (select_row (rows_of self.now.tree) self.now.pins self.now.session (isdr_here (card_of self.now)) (apdu_of command.now)) }
+            (select_row (rows_of self.now.tree) self.now.pins self.now.session
+            (isdr_here (card_of self.now)) (apdu_of command.now)) }
     {
         let isdr_here = self.place.mode.has_isdr(self.place.port);
         select(&self.tree, &self.pins, &self.session, isdr_here, command)
     }
 
+    #[inline(never)]
     fn status(&self, command: &Command) -> Decided
         requires { IsOpen self.now.session command.now.channel }
         ensures { outcome_of self.now.session result ≡ decided self.now.session
-            (status_row (rows_of self.now.tree) self.now.pins self.now.session (apdu_of command.now)) }
+            (status_row (rows_of self.now.tree) self.now.pins self.now.session
+            (apdu_of command.now)) }
     {
         status(&self.tree, &self.pins, &self.session, command)
     }
@@ -149,13 +168,16 @@ impl Card1 {
     fn answer(&self, command: &Command) -> Decided
         requires spelled { IsCommand command.now }
         requires open { IsOpen self.now.session command.now.channel }
-        requires known { IsKnownAt (open_channel self.now.session command.now.channel) command.now.ins }
-        ensures { outcome_of self.now.session result ≡ decision (card_of self.now) (apdu_of command.now) }
+        requires known { IsKnownAt
+            (open_channel self.now.session command.now.channel) command.now.ins }
+        ensures { outcome_of self.now.session result
+            ≡ decision (card_of self.now) (apdu_of command.now) }
     {
         ins_rows!(case_arms: command.ins, instruction(self, command), refuse(Sw::WRONG_INSTRUCTION))
     }
 
-    /// Takes the memory that `settle` needs for a change. Without it nothing changes. Only FileAdd and FileSize need any.
+    /// Takes the memory that `settle` needs for a change. Without it nothing changes. Only FileAdd
+    /// and FileSize need any.
     pub fn reserve(&mut self, change: &Change) -> Result<(), NoMemory>
         requires { Fits (content_of self.old) change.now }
         ensures card { card_of self.new ≡ card_of self.old }
@@ -168,24 +190,32 @@ impl Card1 {
         }
     }
 
-    /// Carries out what `decide` answered: the change of the content, for which memory was reserved, and what happens to
-    /// the session, in place. What `decide` answers to a command and `settle` carries out is one step of the card. It
-    /// takes no memory, and copies at most the channels that the command changes.
+    /// Carries out what `decide` answered: the change of the content, for which memory was
+    /// reserved, and what happens to the session, in place. What `decide` answers to a command and
+    /// `settle` carries out is one step of the card. It takes no memory, and copies at most the
+    /// channels that the command changes.
+    #[inline(never)]
     pub fn settle(&mut self, decided: &Decided)
-        requires may_follow { MayFollow (card_of self.old) (outcome_at (card_of self.old) decided.now) }
+        requires may_follow { MayFollow (card_of self.old)
+            (outcome_at (card_of self.old) decided.now) }
         requires room { HasRoomFor self.old decided.now.change }
         ensures card { card_of self.new ≡ settled (card_of self.old) decided.now }
         ensures place { self.new.place ≡ self.old.place }
         ensures step { (bytes : List ℕ) (c : Apdu) → Spells bytes c
             → outcome_at (card_of self.old) decided.now ≡ decision (card_of self.old) c
             → Steps (card_of self.old) (CommandBytes bytes)
-            (record { answer = Some decided.now.answer; card = card_of self.new; change = decided.now.change }) }
+            (record {
+              answer = Some decided.now.answer;
+              card = card_of self.new;
+              change = decided.now.change;
+            }) }
     {
         self.carry_out(decided);
     }
 
     fn carry_out(&mut self, decided: &Decided)
-        requires may_follow { MayFollow (card_of self.old) (outcome_at (card_of self.old) decided.now) }
+        requires may_follow { MayFollow (card_of self.old)
+            (outcome_at (card_of self.old) decided.now) }
         requires room { HasRoomFor self.old decided.now.change }
         ensures card { card_of self.new ≡ settled (card_of self.old) decided.now }
         ensures place { self.new.place ≡ self.old.place }
@@ -197,14 +227,18 @@ impl Card1 {
         self.session.apply(&decided.session);
     }
 
-    /// Gives the card a fresh session, as `fresh` makes it: for a reset of its port and for a power cycle, with no REFRESH
-    /// and no kept channel, and for a new binding on its port. It takes no memory.
+    /// Gives the card a fresh session, as `fresh` makes it: for a reset of its port and for a
+    /// power cycle, with no REFRESH and no kept channel, and for a new binding on its port. It
+    /// takes no memory.
     pub fn reset(&mut self, refresh: bool, kept: Option<u8>)
         requires { IfSome kept (λ number. number < CHANNELS) }
         ensures session { self.new ≡ record self.old { session = fresh_session refresh kept } }
-        ensures reset { refresh ≡ false → kept ≡ None → Steps (card_of self.old) Reset (silent (card_of self.new)) }
-        ensures power { refresh ≡ false → kept ≡ None → Steps (card_of self.old) Power (silent (card_of self.new)) }
-        ensures bound { Steps (card_of self.old) (Bound self.old.place.port refresh kept) (silent (card_of self.new)) }
+        ensures reset { refresh ≡ false → kept ≡ None
+            → Steps (card_of self.old) Reset (silent (card_of self.new)) }
+        ensures power { refresh ≡ false → kept ≡ None
+            → Steps (card_of self.old) Power (silent (card_of self.new)) }
+        ensures bound { Steps (card_of self.old) (Bound self.old.place.port refresh kept)
+            (silent (card_of self.new)) }
     {
         self.session = fresh(refresh, kept);
     }

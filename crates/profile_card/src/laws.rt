@@ -16,36 +16,42 @@ use case_table::{INS_ROWS, STATUS_ROWS};
 /// Each event at a card has one outcome.
 pub fn events_have_one_outcome()
     ensures some { (card : Card) (event : Event) → (outcome : Outcome) × Steps card event outcome }
-    ensures once { (card : Card) (event : Event) (one other : Outcome) → Steps card event one → Steps card event other → one ≡ other }
+    ensures once { (card : Card) (event : Event) (one other : Outcome) → Steps card event one
+        → Steps card event other → one ≡ other }
 {}
 
 /// To any commands a card at a port gives answers, and to the same commands the same ones.
 pub fn commands_have_one_run()
     ensures some { (card : Card) (port : ℕ) (commands : List (List ℕ)) → card.port ≡ Some port
         → (answers : List Answer) × Runs card commands answers }
-    ensures once { (card : Card) (commands : List (List ℕ)) (one other : List Answer) → Runs card commands one
+    ensures once { (card : Card) (commands : List (List ℕ)) (one other : List Answer)
+        → Runs card commands one
         → Runs card commands other → one ≡ other }
 {}
 
-/// Each event leaves a card that holds what a card may hold, with a session that names what is there.
+/// Each event leaves a card that holds what a card may hold, with a session that names what is
+/// there.
 pub fn cards_stay_sound()
-    ensures { (card : Card) (event : Event) (outcome : Outcome) → IsSound card → Steps card event outcome
+    ensures { (card : Card) (event : Event) (outcome : Outcome) → IsSound card
+        → Steps card event outcome
         → IsSound outcome.card }
 {}
 
-/// What the common part of an eUICC answers in a card's place is unknown to the card itself: it would answer `6D00`, and
-/// nothing would change.
+/// What the common part of an eUICC answers in a card's place is unknown to the card itself: it
+/// would answer `6D00`, and nothing would change.
 pub fn common_commands_are_unknown_to_the_card()
     ensures { (card : Card) (c : Apdu) → is_common card.session c ≡ true
         → decision card c ≡ refused card.session Sw.WRONG_INSTRUCTION }
 {}
 
-/// The table of instructions has just the instructions of a UICC, each with the classes that fit it.
+/// The table of instructions has just the instructions of a UICC, each with the classes that fit
+/// it.
 pub fn the_table_of_instructions_has_their_classes()
     ensures { (ins : ℕ) → ins < 2 ^ 8 → value_of INS_ROWS ins ≡ classes_of ins }
 {}
 
-/// The table of status words has just those that the card's commands answer, each once; the digits of a count are 0.
+/// The table of status words has just those that the card's commands answer, each once; the digits
+/// of a count are 0.
 pub fn the_table_of_status_words_has_each()
     ensures { STATUS_ROWS.keys
         ≡ Sw.OK.0 ∷ Sw.PROACTIVE.0 ∷ (bytes_waiting 256).0 ∷ (wrong_le 256).0

@@ -1,4 +1,5 @@
-//! A card that holds one profile: what it answers to commands, and what they leave (ETSI TS 102 221).
+//! A card that holds one profile: what it answers to commands, and what they leave (ETSI TS 102
+//! 221).
 #![tactic(auto)]
 
 mod card1;

@@ -11,7 +11,8 @@ use file_rows::{Kind, Rule};
 use uicc_channels::{Decided, Session, answer_alone, conclude, require, require_active};
 use uicc_tree::Tree;
 
-// Whether a file may be read: no key can be verified yet, so it may where reading is always allowed.
+// Whether a file may be read: no key can be verified yet, so it may where reading is always
+// allowed.
 fn may_read(rule: Option<Rule>) -> bool
     ensures { result ≡ may_be_read rule }
 {
@@ -25,7 +26,8 @@ fn may_read(rule: Option<Rule>) -> bool
 fn read_from(body: &[u8], offset: usize, le: u16) -> Result<AnswerBody, Sw>
     requires { le ≤ 256 }
     ensures { MatchResult result
-        (λ bytes. (read_refusal body.now offset le ≡ None) × (bytes ≡ take le (drop offset body.now)))
+        (λ bytes. (read_refusal body.now offset le ≡ None)
+        × (bytes ≡ take le (drop offset body.now)))
         (λ sw. read_refusal body.now offset le ≡ Some sw) }
 {
     require(offset < body.len(), Sw::WRONG_OFFSET)?;
@@ -38,11 +40,13 @@ fn read_from(body: &[u8], offset: usize, le: u16) -> Result<AnswerBody, Sw>
 }
 
 /// READ BINARY from an offset (ETSI TS 102 221).
+#[inline(never)]
 pub(crate) fn read_binary(tree: &Tree, session: &Session, command: &Command) -> Decided
     requires open { IsOpen session.now command.now.channel }
     requires spelled { IsCommand command.now }
     ensures { outcome_of session.now result
-        ≡ decided session.now (read_binary_row (rows_of tree.now) session.now (apdu_of command.now)) }
+        ≡ decided session.now (read_binary_row (rows_of tree.now) session.now
+        (apdu_of command.now)) }
 {
     conclude(try_read_binary(tree, session, command))
 }
@@ -50,7 +54,8 @@ pub(crate) fn read_binary(tree: &Tree, session: &Session, command: &Command) -> 
 fn try_read_binary(tree: &Tree, session: &Session, command: &Command) -> Result<Decided, Sw>
     requires open { IsOpen session.now command.now.channel }
     requires spelled { IsCommand command.now }
-    ensures { Follows session.now (read_binary_row (rows_of tree.now) session.now (apdu_of command.now)) result }
+    ensures { Follows session.now (read_binary_row (rows_of tree.now) session.now
+        (apdu_of command.now)) result }
 {
     require(class_fits(command.ins, command.class), Sw::WRONG_CLASS)?;
     require(command.p1 < 0x80, Sw::WRONG_P1_P2)?;

@@ -13,8 +13,8 @@ use uicc_channels::fresh;
 
 const ICCID: [u8; 10] = [0x98, 0x94, 0, 0, 0, 0, 0, 0, 0, 0xF1];
 
-// The records of the EF ARR, of 42 bytes each: read always and update with key 0A; read and update always; read and
-// update with key 01.
+// The records of the EF ARR, of 42 bytes each: read always and update with key 0A; read and update
+// always; read and update with key 01.
 const RULES: [u8; 95] = [
     0x80, 1, 1, 0x90, 0, 0x80, 1, 2, 0xA4, 6, 0x83, 1, 0x0A, 0x95, 1, 8, 0xFF, 0xFF, 0xFF, 0xFF,
     0xFF, 0xFF, 0xFF, 0xFF, 0xFF, 0xFF, 0xFF, 0xFF, 0xFF, 0xFF, 0xFF, 0xFF, 0xFF, 0xFF, 0xFF, 0xFF,

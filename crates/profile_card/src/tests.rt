@@ -1,5 +1,5 @@
-//! What no clause says: the sample card and a card with an application as the worked examples have them, and each call
-//! once.
+//! What no clause says: the sample card and a card with an application as the worked examples have
+//! them, and each call once.
 ghost use Rattle.std.specs.Prelude.{◌≡◌, ◌≤◌, false, None, Some, IfOk, length};
 ghost use Rattle.file_rows.specs.Content.{IsValid};
 ghost use Rattle.port_table.specs.declared.port_mode.PortMode.TheVariants.{A1};
@@ -61,7 +61,8 @@ fn ask(card: &mut Card1, bytes: &[u8]) -> Result<Answer, Fail> {
     Ok(decided.answer)
 }
 
-// Whether the card gives these answers, one after another; if not, the number of the first that it doesn't give.
+// Whether the card gives these answers, one after another; if not, the number of the first that it
+// doesn't give.
 fn first_other(card: &mut Card1, rows: &[Case]) -> Result<Option<usize>, Fail> {
     for (index, (bytes, body, sw)) in rows.iter().enumerate() {
         let answer = ask(card, bytes)?;
@@ -169,7 +170,8 @@ fn make_pin(number: u8, key: u8) -> PinRow {
     }
 }
 
-// An MF with three EFs, of which one is deactivated and one terminated, and an application that has an EF too.
+// An MF with three EFs, of which one is deactivated and one terminated, and an application that
+// has an EF too.
 fn content_with_application(alloc: Global) -> Result<Content, NoMemory> {
     let iccid = b"\x98\x94\x00\x00\x00\x00\x00\x00\x00\xF2";
     let ef = Kind::Transparent;
@@ -199,7 +201,12 @@ fn content_with_application(alloc: Global) -> Result<Content, NoMemory> {
 fn start(alloc: Global, content: &Content) -> Result<Card1, NoMemory>
     requires { IsValid content.now }
     ensures { IfOk result (λ card. card_of card
-        ≡ record { content = content.now; session = fresh_session false None; mode = A1; port = Some 1 }) }
+        ≡ record {
+          content = content.now;
+          session = fresh_session false None;
+          mode = A1;
+          port = Some 1;
+        }) }
 {
     Card1::start(alloc, content, fresh(false, None), PORT_1_OF_A1)
 }
@@ -278,7 +285,12 @@ fn blank(alloc: Global, place: Place) -> Card1 {
 fn change(card: &mut Card1, content: &Content, change: Change) -> Result<(), Fail>
     requires valid { IsValid content.now }
     requires card { card_of card.old
-        ≡ record { content = content.now; session = fresh_session false None; mode = A1; port = Some 1 } }
+        ≡ record {
+          content = content.now;
+          session = fresh_session false None;
+          mode = A1;
+          port = Some 1;
+        } }
 {
     if !content.fits(&change) {
         return Err(Fail::from("the change doesn't fit the content"));

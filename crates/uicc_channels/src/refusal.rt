@@ -40,6 +40,7 @@ pub fn answer_alone(answer: Answer) -> Decided
 }
 
 /// A command that is refused: the status word alone, with nothing changed.
+#[inline(never)]
 pub fn refuse(sw: Sw) -> Decided
     ensures { (session : Session) → outcome_of session result ≡ refused session sw }
 {

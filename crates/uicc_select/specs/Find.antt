@@ -39,9 +39,11 @@ found_by_id rows chan id =
 -- from a file, each identifier that of a file in the one before
 abbrev pub found_through : List FileRow → List ℕ → FileRow → Option FileRow
 found_through rows [] row = Some row
-found_through rows (id ∷ ids) row = option_and_then (found_through rows ids) (child rows row.head.path id)
+found_through rows (id ∷ ids) row =
+    option_and_then (found_through rows ids) (child rows row.head.path id)
 
--- ETSI TS 102 221, SELECT by path from the MF, of which a first identifier 7FFF is the channel's application
+-- ETSI TS 102 221, SELECT by path from the MF, of which a first identifier 7FFF is the channel's
+-- application
 abbrev pub found_from_master : List FileRow → Chan → List ℕ → Option FileRow
 found_from_master rows chan [] = None
 found_from_master rows chan (id ∷ ids) =

@@ -46,7 +46,8 @@ application_after app (Named name) path = Some path
 application_after app (FromMaster ids) path = app
 application_after app (FromCurrent ids) path = app
 
--- a directory becomes current with no EF; an EF becomes current and so does its directory, with no record; nothing waits
+-- a directory becomes current with no EF; an EF becomes current and so does its directory, with no
+-- record; nothing waits
 abbrev pub standing_at : Chan → Target → FileHead → Chan
 standing_at chan target head =
     let path = head.path in
@@ -72,7 +73,8 @@ abbrev pub waiting_if_some : Option ℕ → Session → ℕ → Option (List ℕ
 waiting_if_some le session channel None = session
 waiting_if_some le session channel (Some body) = waiting le session channel body
 
--- a file is selected: the channel stands at it, and then its control parameters are delivered, where they are asked for
+-- a file is selected: the channel stands at it, and then its control parameters are delivered,
+-- where they are asked for
 abbrev pub selecting : Session → Apdu → Target → Option (List ℕ) → FileHead → CommandOutcome
 selecting session c target parameters head =
     let after = standing_at (open_channel session c.channel) target head in
@@ -85,7 +87,8 @@ selecting session c target parameters head =
 
 -- the ISD-R is selected
 abbrev pub selecting_isdr : Session → Apdu → CommandOutcome
-selecting_isdr session c = answering (with_channel session c.channel (Some at_isdr)) (status_alone OK)
+selecting_isdr session c =
+    answering (with_channel session c.channel (Some at_isdr)) (status_alone OK)
 
 -- the ISD-R is named by its whole AID alone
 abbrev pub names_isdr : Target → Bool
@@ -100,7 +103,8 @@ names_isdr (FromCurrent ids) = false
 abbrev pub parameters_for : ℕ → List PinRow → FileRow → Option (List ℕ)
 parameters_for p2 pins row = if p2 == 0x04 then Some (written_fcp row.head pins) else None
 
--- what a target comes to: why it isn't there, why it may be refused where it is, and what selecting it comes to
+-- what a target comes to: why it isn't there, why it may be refused where it is, and what
+-- selecting it comes to
 pub record Selection : Type 0 where
   pub file : Option Sw
   pub own : Option Sw
@@ -121,12 +125,14 @@ selection_of_file pins session c target (Some row) =
     }
 
 -- the ISD-R, where it is here and named, before the files
-abbrev pub selection_of : List FileRow → List PinRow → Session → Bool → Apdu → Option Target → Selection
+abbrev pub selection_of :
+    List FileRow → List PinRow → Session → Bool → Apdu → Option Target → Selection
 selection_of rows pins session isdr_here c None = no_selection session
 selection_of rows pins session isdr_here c (Some target) =
     if isdr_here && names_isdr target
     then record { file = None; own = None; done = selecting_isdr session c }
-    else selection_of_file pins session c target (found rows (open_channel session c.channel) target)
+    else
+    selection_of_file pins session c target (found rows (open_channel session c.channel) target)
 
 -- ETSI TS 102 221, SELECT
 abbrev pub select_row : List FileRow → List PinRow → Session → Bool → Apdu → CommandRow

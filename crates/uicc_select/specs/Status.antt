@@ -16,8 +16,8 @@ use Rattle.uicc_channels.specs.Session.{open_channel}
 use Rattle.uicc_channels.specs.declared.chan.Chan.{Chan}
 use Rattle.uicc_channels.specs.declared.session.Session.{Session}
 
--- P1 00, 01 and 02, of which none changes the answer; P2 00, 01 and 0C: the control parameters of the current
--- directory, the application's name, no answer body
+-- P1 00, 01 and 02, of which none changes the answer; P2 00, 01 and 0C: the control parameters of
+-- the current directory, the application's name, no answer body
 abbrev pub are_of_status : ℕ → ℕ → Bool
 are_of_status p1 p2 =
     ((p1 == 0x00) || (p1 == 0x01) || (p1 == 0x02)) && ((p2 == 0x00) || (p2 == 0x01) || (p2 == 0x0C))
@@ -28,11 +28,13 @@ name_object name = 0x84 ∷ length name ∷ name
 
 -- the control parameters of the current directory, where there is one
 abbrev pub parameters_of_directory : List FileRow → List PinRow → Chan → Option (List ℕ)
-parameters_of_directory rows pins chan = option_map (λ row. written_fcp row.head pins) (file_at chan.dir rows)
+parameters_of_directory rows pins chan =
+    option_map (λ row. written_fcp row.head pins) (file_at chan.dir rows)
 
 -- the name of the channel's application, where there is one
 abbrev pub name_of_application : List FileRow → Chan → Option (List ℕ)
-name_of_application rows chan = option_map (λ row. name_object row.head.name) (file_of_path rows chan.app)
+name_of_application rows chan =
+    option_map (λ row. name_object row.head.name) (file_of_path rows chan.app)
 
 -- ETSI TS 102 221, STATUS
 abbrev pub status_row : List FileRow → List PinRow → Session → Apdu → CommandRow

@@ -5,7 +5,8 @@ use Rattle.uicc_select.specs.declared.naming.Target.TheVariants.{Id, Directory, 
 
 -- ETSI TS 102 221, SELECT: P1 is one of the selection methods
 abbrev pub is_selection_method : ℕ → Bool
-is_selection_method p1 = (p1 == 0x00) || (p1 == 0x01) || (p1 == 0x03) || (p1 == 0x04) || (p1 == 0x08) || (p1 == 0x09)
+is_selection_method p1 =
+    (p1 == 0x00) || (p1 == 0x01) || (p1 == 0x03) || (p1 == 0x04) || (p1 == 0x08) || (p1 == 0x09)
 
 -- a file identifier, in two bytes
 abbrev pub id_in : List ℕ → Option ℕ
@@ -22,7 +23,8 @@ ids_in (high ∷ low ∷ rest) = (high * 256 + low) ∷ ids_in rest
 
 -- one to four identifiers
 abbrev pub path_in : List ℕ → Option (List ℕ)
-path_in body = if (length body % 2 == 0) && is_within 2 8 (length body) then Some (ids_in body) else None
+path_in body =
+    if (length body % 2 == 0) && is_within 2 8 (length body) then Some (ids_in body) else None
 
 -- 5 to 16 bytes
 abbrev pub name_in : List ℕ → Option (List ℕ)

@@ -77,7 +77,8 @@ fn find_by_id(tree: &Tree, chan: &Chan, id: u16) -> Option<u32>
 // From a file, each identifier that of a file in the one before.
 fn find_through(tree: &Tree, start: u32, ids: &[u16]) -> Option<u32>
     requires { IsLive tree.now start }
-    ensures { Gives tree.now result (found_through (rows_of tree.now) ids.now (file_of tree.now start)) }
+    ensures { Gives tree.now result (found_through (rows_of tree.now) ids.now
+        (file_of tree.now start)) }
 {
     let mut node = start;
     for id in ids {

@@ -12,16 +12,21 @@ use crate::selection::ISDR_AID;
 
 /// The AID of the ISD-R is the one that GSMA SGP.02 and SGP.22 give it.
 pub fn the_isdr_has_its_aid()
-    ensures { ISDR_AID ≡ 0xA0 ∷ 0x00 ∷ 0x00 ∷ 0x05 ∷ 0x59 ∷ 0x10 ∷ 0x10 ∷ 0xFF ∷ 0xFF ∷ 0xFF ∷ 0xFF ∷ 0x89
-        ∷ 0x00 ∷ 0x00 ∷ 0x01 ∷ 0x00 ∷ [] }
+    ensures { ISDR_AID ≡ 0xA0 ∷ 0x00 ∷ 0x00 ∷ 0x05 ∷ 0x59 ∷ 0x10 ∷ 0x10 ∷ 0xFF ∷ 0xFF ∷ 0xFF ∷ 0xFF
+        ∷ 0x89 ∷ 0x00 ∷ 0x00 ∷ 0x01 ∷ 0x00 ∷ [] }
 {}
 
-/// A session that suits a valid content goes on to suit it after every SELECT and STATUS, accepted or refused: the
-/// current directory, the current EF and the application of each channel are files of the card.
+/// A session that suits a valid content goes on to suit it after every SELECT and STATUS, accepted
+/// or refused: the current directory, the current EF and the application of each channel are files
+/// of the card.
 pub fn sessions_suit_after_selection()
-    ensures select { (content : Content) (session : Session) (isdr_here : Bool) (c : Apdu) → IsValid content
+    ensures select { (content : Content) (session : Session) (isdr_here : Bool) (c : Apdu)
+        → IsValid content
         → Suits session content.rows
-        → Suits (decided session (select_row content.rows content.pins session isdr_here c)).session content.rows }
-    ensures status { (content : Content) (session : Session) (c : Apdu) → IsValid content → Suits session content.rows
-        → Suits (decided session (status_row content.rows content.pins session c)).session content.rows }
+        → Suits (decided session
+        (select_row content.rows content.pins session isdr_here c)).session content.rows }
+    ensures status { (content : Content) (session : Session) (c : Apdu) → IsValid content
+        → Suits session content.rows
+        → Suits (decided session
+        (status_row content.rows content.pins session c)).session content.rows }
 {}

@@ -1,4 +1,5 @@
-//! SELECT and STATUS (ETSI TS 102 221): a file is found in the tree of a card's files, and becomes the channel's.
+//! SELECT and STATUS (ETSI TS 102 221): a file is found in the tree of a card's files, and becomes
+//! the channel's.
 //!
 //! Nothing here takes memory.
 #![tactic(auto)]

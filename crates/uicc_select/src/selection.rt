@@ -143,6 +143,7 @@ fn leave_waiting(chan: &mut Chan, le: Option<u16>, parameters: &Option<Parameter
 }
 
 // Selects a file.
+#[inline(never)]
 fn select_file(
     session: &Session,
     command: &Command,
@@ -166,7 +167,8 @@ fn select_file(
 
 // Selects the ISD-R.
 fn select_isdr(command: &Command) -> Decided
-    ensures { (session : Session) → outcome_of session result ≡ selecting_isdr session (apdu_of command.now) }
+    ensures { (session : Session) → outcome_of session result
+        ≡ selecting_isdr session (apdu_of command.now) }
 {
     Decided {
         answer: Answer::status(Sw::OK),
@@ -175,15 +177,16 @@ fn select_isdr(command: &Command) -> Decided
     }
 }
 
-/// SELECT (ETSI TS 102 221): by file identifier, of a directory in the current one, of the parent, by name, by path from
-/// the MF and from the current directory; with P2 `00` and `0C` there is no answer body, with `04` the file control
-/// parameters are delivered by their length and Le.
+/// SELECT (ETSI TS 102 221): by file identifier, of a directory in the current one, of the parent,
+/// by name, by path from the MF and from the current directory; with P2 `00` and `0C` there is no
+/// answer body, with `04` the file control parameters are delivered by their length and Le.
 ///
-/// `isdr_here` says whether the ISD-R may be selected on the port; its whole AID then selects it in place of an
-/// application. What isn't found is `6A82`. A deactivated file answers `6283`, a terminated one `6285`, in place of
-/// `9000`; both are selected. What waited on the channel and its record pointer are gone once a SELECT is accepted; a
-/// refused one changes nothing. A session that suits the files goes on to suit them. It goes down from the MF at most
-/// four times, looks for a name at each file, and takes no memory.
+/// `isdr_here` says whether the ISD-R may be selected on the port; its whole AID then selects it
+/// in place of an application. What isn't found is `6A82`. A deactivated file answers `6283`, a
+/// terminated one `6285`, in place of `9000`; both are selected. What waited on the channel and
+/// its record pointer are gone once a SELECT is accepted; a refused one changes nothing. A session
+/// that suits the files goes on to suit them. It goes down from the MF at most four times, looks
+/// for a name at each file, and takes no memory.
 pub fn select(
     tree: &Tree,
     pins: &[PinRow],
@@ -194,7 +197,8 @@ pub fn select(
     requires files { AreRows (rows_of tree.now) }
     requires open { IsOpen session.now command.now.channel }
     ensures value { outcome_of session.now result
-        ≡ decided session.now (select_row (rows_of tree.now) pins.now session.now isdr_here (apdu_of command.now)) }
+        ≡ decided session.now (select_row (rows_of tree.now) pins.now session.now isdr_here
+        (apdu_of command.now)) }
     ensures suits { Suits session.now (rows_of tree.now)
         → Suits (session_after session.now result.session) (rows_of tree.now) }
     ensures content { result.change ≡ None }
@@ -212,7 +216,8 @@ fn try_select(
     requires files { AreRows (rows_of tree.now) }
     requires open { IsOpen session.now command.now.channel }
     ensures { Follows session.now
-        (select_row (rows_of tree.now) pins.now session.now isdr_here (apdu_of command.now)) result }
+        (select_row (rows_of tree.now) pins.now session.now isdr_here
+        (apdu_of command.now)) result }
 {
     require(class_fits(command.ins, command.class), Sw::WRONG_CLASS)?;
     require(are_of_select(command.p1, command.p2), Sw::WRONG_P1_P2)?;

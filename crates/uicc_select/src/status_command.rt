@@ -52,17 +52,19 @@ fn name_of_application(tree: &Tree, chan: &Chan) -> Option<AnswerBody>
     Some(name_object(&tree.head(node).name))
 }
 
-/// STATUS (ETSI TS 102 221): with P2 `00` the control parameters of the current directory, with `01` the name of the
-/// channel's application as it stands in its control parameters, with `0C` no answer body.
+/// STATUS (ETSI TS 102 221): with P2 `00` the control parameters of the current directory, with
+/// `01` the name of the channel's application as it stands in its control parameters, with `0C` no
+/// answer body.
 ///
-/// The answer body is delivered by its length and Le. A card without an MF has no current directory (`6A82`), and a
-/// channel may have no application (`6A88`). Nothing but what waits on the channel changes; a session that suits the
-/// files goes on to suit them. It takes no memory.
+/// The answer body is delivered by its length and Le. A card without an MF has no current
+/// directory (`6A82`), and a channel may have no application (`6A88`). Nothing but what waits on
+/// the channel changes; a session that suits the files goes on to suit them. It takes no memory.
 pub fn status(tree: &Tree, pins: &[PinRow], session: &Session, command: &Command) -> Decided
     requires files { AreRows (rows_of tree.now) }
     requires open { IsOpen session.now command.now.channel }
     ensures value { outcome_of session.now result
-        ≡ decided session.now (status_row (rows_of tree.now) pins.now session.now (apdu_of command.now)) }
+        ≡ decided session.now (status_row (rows_of tree.now) pins.now session.now
+        (apdu_of command.now)) }
     ensures suits { Suits session.now (rows_of tree.now)
         → Suits (session_after session.now result.session) (rows_of tree.now) }
     ensures content { result.change ≡ None }

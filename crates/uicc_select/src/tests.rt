@@ -1,5 +1,5 @@
-//! What no clause says: where a SELECT by each way of naming leads on a card of three levels, on one without files, the
-//! control parameters as a terminal sees them, and each call once.
+//! What no clause says: where a SELECT by each way of naming leads on a card of three levels, on
+//! one without files, the control parameters as a terminal sees them, and each call once.
 ghost use Rattle.std.specs.Prelude.{◌≡◌};
 ghost use Rattle.uicc_tree.specs.Change.{AreRows};
 ghost use Rattle.uicc_tree.specs.Files.{rows_of};
@@ -32,7 +32,8 @@ fn command(ins: u8, p1: u8, p2: u8, body: &[u8], le: Option<u16>) -> Command<'_>
     }
 }
 
-// The answer to a SELECT on an open channel of a card with two PINs. The session changes as it says.
+// The answer to a SELECT on an open channel of a card with two PINs. The session changes as it
+// says.
 fn select_on(
     tree: &Tree,
     session: &mut Session,
@@ -63,7 +64,8 @@ fn status_on(tree: &Tree, session: &mut Session, command: &Command) -> Result<An
     Ok(decided.answer)
 }
 
-// A SELECT by its P1 and body, its status word, and the current directory and EF after it; no EF has the empty path.
+// A SELECT by its P1 and body, its status word, and the current directory and EF after it; no EF
+// has the empty path.
 #[derive(Drop)]
 struct Step {
     p1: u8,
@@ -201,8 +203,8 @@ fn stands_at(session: &Session, dir: &[u16], file: &[u16]) -> bool {
     chan.dir.as_slice() == dir && current == file
 }
 
-// Takes the steps from a fresh session on, each from where the one before led: the place of the first that leads
-// elsewhere, or answers otherwise.
+// Takes the steps from a fresh session on, each from where the one before led: the place of the
+// first that leads elsewhere, or answers otherwise.
 fn first_astray(tree: &Tree, steps: &[Step]) -> Result<Option<usize>, Fail>
     requires { AreRows (rows_of tree.now) }
 {

@@ -1,4 +1,5 @@
-//! The card of the tests: three levels of files, in which identifiers stand at several places, and two PINs.
+//! The card of the tests: three levels of files, in which identifiers stand at several places, and
+//! two PINs.
 ghost use Rattle.std.specs.Prelude.{◌≤◌, ◌<◌, ◌^◌, length, IfOk};
 ghost use Rattle.uicc_tree.specs.Change.{AreRows};
 ghost use Rattle.uicc_tree.specs.Files.{rows_of};
