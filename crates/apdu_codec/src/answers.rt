@@ -1,5 +1,5 @@
 //! What a card answers.
-ghost use Rattle.std.specs.Prelude.{◌≡◌};
+ghost use Rattle.std.specs.Prelude.{◌≡◌, ◌≤◌, length};
 ghost use Rattle.apdu_codec.specs.Answer.{status_alone};
 
 use crate::Sw;
@@ -24,5 +24,23 @@ impl Answer {
             body: AnswerBody::new(),
             sw,
         }
+    }
+
+    /// It is this status word without an answer body, whatever it was before.
+    pub fn set_status(&mut self, sw: Sw)
+        ensures { self.new ≡ status_alone sw }
+    {
+        self.body.clear();
+        self.sw = sw;
+    }
+
+    /// It has this body, of at most 256 bytes, and this status word, whatever it was before.
+    pub fn set(&mut self, body: &[u8], sw: Sw)
+        requires { length body.now ≤ 256 }
+        ensures { self.new ≡ record { body = body.now; sw = sw } }
+    {
+        self.body.clear();
+        self.body.extend_from_slice(body);
+        self.sw = sw;
     }
 }

@@ -22,6 +22,7 @@ use file_rows::Change;
 use port_io::{Failed, ReadError, Sink, Source, read_source, write_all};
 use profile_card::{Card1, NoMemory, sample_card};
 use std::alloc::Global;
+use uicc_channels::Decided;
 
 /// How much text is gathered before it is written.
 const BLOCK: usize = 65_536;
@@ -41,6 +42,13 @@ fn reserve(card: &mut Card1, change: &Option<Change>) -> Result<(), NoMemory>
     }
 }
 
+// What one command after another is decided in and written with, so that none is copied.
+#[derive(Drop)]
+struct Scratch {
+    decided: Decided,
+    digits: [u8; MAX_BODY_DIGITS],
+}
+
 // Appends the line of the card's answer to statement `number`, and carries out what the command
 // comes to. Without memory the card stays as it was.
 fn reply(
@@ -48,7 +56,7 @@ fn reply(
     number: usize,
     bytes: &[u8],
     text: &mut Vec<u8>,
-    room: &mut [u8; MAX_BODY_DIGITS],
+    scratch: &mut Scratch,
 ) -> Result<(), NoMemory>
     ensures given { OnOk result ((answer : Answer)
         × AnswersWith (card_of card.old) bytes.now answer (card_of card.new)
@@ -57,13 +65,14 @@ fn reply(
 {
     match read_command(bytes) {
         Ok(command) => {
-            let decided = card.decide(&command);
-            let answer = &decided.answer;
-            push_answer(text, number, answer.body.as_slice(), answer.sw, room)?;
+            card.decide_into(&command, &mut scratch.decided);
+            let decided = &scratch.decided;
+            let body = decided.answer.body.as_slice();
+            push_answer(text, number, body, decided.answer.sw, &mut scratch.digits)?;
             reserve(card, &decided.change)?;
-            card.settle(&decided);
+            card.settle(decided);
         }
-        Err(sw) => push_answer(text, number, &[], sw, room)?,
+        Err(sw) => push_answer(text, number, &[], sw, &mut scratch.digits)?,
     }
     Ok(())
 }
@@ -117,10 +126,13 @@ fn answer_all<K: Sink>(alloc: Global, script: &Script, out: &mut K) -> Result<()
 {
     let mut card = sample_card(alloc)?;
     let mut block = Vec::with_capacity(alloc, BLOCK + LONGEST_LINE)?;
-    let mut room = [0; MAX_BODY_DIGITS];
+    let mut scratch = Scratch {
+        decided: Decided::new(),
+        digits: [0; MAX_BODY_DIGITS],
+    };
     for index in 0..script.len() {
         let bytes = script.statement(index).apdu;
-        reply(&mut card, index + 1, bytes, &mut block, &mut room)?;
+        reply(&mut card, index + 1, bytes, &mut block, &mut scratch)?;
         write_full_block(out, &mut block)?;
     }
     write_all(out, &block)?;

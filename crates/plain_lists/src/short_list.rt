@@ -88,6 +88,15 @@ impl<T: Drop, const CAP: usize> ShortList<T, CAP> {
         self.elements.is_empty()
     }
 
+    /// Takes all elements away.
+    pub fn clear(&mut self)
+    where
+        T: Default,
+        ensures { self.new ≡ [] }
+    {
+        self.elements.clear();
+    }
+
     /// Adds an element at the end.
     pub fn push(&mut self, element: T)
         requires { length self.old < CAP }

@@ -24,23 +24,23 @@ use case_table::{case_arms, ins_rows};
 use file_rows::{Change, Content, NoMemory, PinRow, copy_pins};
 use std::alloc::Global;
 use std::marker::Model;
-use uicc_channels::{Decided, Session, fresh, refuse};
+use uicc_channels::{Decided, Session, fresh};
 use uicc_select::{select, status};
 use uicc_tree::Tree;
 
 /// What the card does for each row of the table of instructions.
 macro_rules! instruction {
-    (0xA4, $class:tt, ($card:expr, $command:expr)) => {
-        $card.select($command)
+    (0xA4, $class:tt, ($card:expr, $command:expr, $into:expr)) => {
+        $card.select($command, $into)
     };
-    (0xF2, $class:tt, ($card:expr, $command:expr)) => {
-        $card.status($command)
+    (0xF2, $class:tt, ($card:expr, $command:expr, $into:expr)) => {
+        $card.status($command, $into)
     };
-    (0xB0, $class:tt, ($card:expr, $command:expr)) => {
-        read_binary(&$card.tree, &$card.session, $command)
+    (0xB0, $class:tt, ($card:expr, $command:expr, $into:expr)) => {
+        read_binary(&$card.tree, &$card.session, $command, $into)
     };
-    ($ins:tt, $class:tt, ($card:expr, $command:expr)) => {
-        refuse(Sw::WRONG_INSTRUCTION)
+    ($ins:tt, $class:tt, ($card:expr, $command:expr, $into:expr)) => {
+        $into.set_status(Sw::WRONG_INSTRUCTION)
     };
 }
 
@@ -127,53 +127,73 @@ impl Card1 {
     /// SELECT, STATUS and READ BINARY from an offset (ETSI TS 102 221); any other instruction is
     /// answered `6D00`, and so is each but SELECT where the ISD-R is selected on the channel. It
     /// takes no memory, and copies no session.
-    #[inline(never)]
     pub fn decide(&self, command: &Command) -> Decided
         requires { IsCommand command.now }
         ensures decision { outcome_at (card_of self.now) result
             ≡ decision (card_of self.now) (apdu_of command.now) }
         ensures may_follow { MayFollow (card_of self.now) (outcome_at (card_of self.now) result) }
     {
-        let Some(chan) = self.session.channel_at(command.channel) else {
-            return refuse(Sw::CHANNEL_NOT_SUPPORTED);
-        };
-        if chan.isdr && !is_for_isdr(command.ins) {
-            return refuse(Sw::WRONG_INSTRUCTION);
-        }
-        self.answer(command)
+        let mut decided = Decided::new();
+        self.decide_into(command, &mut decided);
+        decided
     }
 
-    #[inline(never)]
-    fn select(&self, command: &Command) -> Decided
+    /// What `decide` returns, in the place of what was decided before. Whoever decides many
+    /// commands saves the copies.
+    pub fn decide_into(&self, command: &Command, into: &mut Decided)
+        requires { IsCommand command.now }
+        ensures decision { outcome_at (card_of self.now) into.new
+            ≡ decision (card_of self.now) (apdu_of command.now) }
+        ensures may_follow { MayFollow (card_of self.now)
+            (outcome_at (card_of self.now) into.new) }
+    {
+        let Some(chan) = self.session.channel_at(command.channel) else {
+            into.set_status(Sw::CHANNEL_NOT_SUPPORTED);
+            return;
+        };
+        if chan.isdr && !is_for_isdr(command.ins) {
+            into.set_status(Sw::WRONG_INSTRUCTION);
+            return;
+        }
+        self.answer(command, into);
+    }
+
+    fn select(&self, command: &Command, into: &mut Decided)
         requires { IsOpen self.now.session command.now.channel }
-        ensures { outcome_of self.now.session result ≡ decided self.now.session
+        ensures { outcome_of self.now.session into.new ≡ decided self.now.session
             (select_row (rows_of self.now.tree) self.now.pins self.now.session
             (isdr_here (card_of self.now)) (apdu_of command.now)) }
     {
         let isdr_here = self.place.mode.has_isdr(self.place.port);
-        select(&self.tree, &self.pins, &self.session, isdr_here, command)
+        select(
+            &self.tree,
+            &self.pins,
+            &self.session,
+            isdr_here,
+            command,
+            into,
+        );
     }
 
-    #[inline(never)]
-    fn status(&self, command: &Command) -> Decided
+    fn status(&self, command: &Command, into: &mut Decided)
         requires { IsOpen self.now.session command.now.channel }
-        ensures { outcome_of self.now.session result ≡ decided self.now.session
+        ensures { outcome_of self.now.session into.new ≡ decided self.now.session
             (status_row (rows_of self.now.tree) self.now.pins self.now.session
             (apdu_of command.now)) }
     {
-        status(&self.tree, &self.pins, &self.session, command)
+        status(&self.tree, &self.pins, &self.session, command, into);
     }
 
     // What a command comes to by its instruction, on an open channel that knows it.
-    fn answer(&self, command: &Command) -> Decided
+    fn answer(&self, command: &Command, into: &mut Decided)
         requires spelled { IsCommand command.now }
         requires open { IsOpen self.now.session command.now.channel }
         requires known { IsKnownAt
             (open_channel self.now.session command.now.channel) command.now.ins }
-        ensures { outcome_of self.now.session result
+        ensures { outcome_of self.now.session into.new
             ≡ decision (card_of self.now) (apdu_of command.now) }
     {
-        ins_rows!(case_arms: command.ins, instruction(self, command), refuse(Sw::WRONG_INSTRUCTION))
+        ins_rows!(case_arms: command.ins, instruction(self, command, into), into.set_status(Sw::WRONG_INSTRUCTION))
     }
 
     /// Takes the memory that `settle` needs for a change. Without it nothing changes. Only FileAdd
@@ -194,7 +214,6 @@ impl Card1 {
     /// reserved, and what happens to the session, in place. What `decide` answers to a command and
     /// `settle` carries out is one step of the card. It takes no memory, and copies at most the
     /// channels that the command changes.
-    #[inline(never)]
     pub fn settle(&mut self, decided: &Decided)
         requires may_follow { MayFollow (card_of self.old)
             (outcome_at (card_of self.old) decided.now) }

@@ -9,10 +9,10 @@ use Rattle.uicc_channels.specs.declared.decided.Decided.{Decided}
 use Rattle.uicc_channels.specs.declared.session.Session.{Session}
 
 -- a refusal is what its row says
-pub Follows-refused : (session : Session) (row : CommandRow) (result : Result Decided Sw) (sw first : Sw) → IsErrAnd result (λ e. e ≡ sw)
-    → sw ≡ first → refusal_of row ≡ Some first → Follows session row result
-Follows-refused session row (Ok done) sw first refused same said = absurd refused
-Follows-refused session row (Err e) sw first refused same said = said ∙ ap (λ (x : Sw). Some x) (sym (refused ∙ same))
+pub Follows-refused : (session : Session) (row : CommandRow) (done : Decided) (result : Result Unit Sw) (sw first : Sw) → IsErrAnd result (λ e. e ≡ sw)
+    → sw ≡ first → refusal_of row ≡ Some first → Follows session row done result
+Follows-refused session row done (Ok _) sw first refused same said = absurd refused
+Follows-refused session row done (Err e) sw first refused same said = said ∙ ap (λ (x : Sw). Some x) (sym (refused ∙ same))
 
 -- a session that suits after what an instruction does suits after it is refused or done
 pub Suits-decided : (rows : List FileRow) (session : Session) (row : CommandRow) → Suits session rows → Suits row.done.session rows

@@ -3,7 +3,7 @@ use Rattle.apdu_codec.specs.Answer.{status_alone}
 use Rattle.apdu_codec.specs.declared.answers.Answer.{Answer}
 use Rattle.apdu_codec.specs.declared.status.Sw.{Sw}
 use Rattle.file_rows.specs.declared.change.Change.{Change}
-use Rattle.uicc_channels.specs.SessionChange.{session_after}
+use Rattle.uicc_channels.specs.SessionChange.{no_change, session_after}
 use Rattle.uicc_channels.specs.declared.decided.Decided.{Decided}
 use Rattle.uicc_channels.specs.declared.session.Session.{Session}
 
@@ -29,3 +29,7 @@ answering session answer = record { answer = answer; session = session; change =
 -- a refused command changes nothing
 abbrev pub refused : Session → Sw → CommandOutcome
 refused session sw = answering session (status_alone sw)
+
+-- a status word alone, with which nothing changes
+abbrev pub status_decision : Sw → Decided
+status_decision sw = record { answer = status_alone sw; session = no_change; change = None }

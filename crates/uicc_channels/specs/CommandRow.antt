@@ -23,7 +23,7 @@ refused_or (Some sw) session done = refused session sw
 abbrev pub decided : Session → CommandRow → CommandOutcome
 decided session row = refused_or (refusal_of row) session row.done
 
--- what came of an instruction is what its row says
-abbrev pub Follows : Session → CommandRow → Result Decided Sw → Type 0
-Follows session row (Ok done) = (refusal_of row ≡ None) × (outcome_of session done ≡ row.done)
-Follows session row (Err sw) = refusal_of row ≡ Some sw
+-- what came of an instruction is what its row says: it was done, and this was decided, or refused
+abbrev pub Follows : Session → CommandRow → Decided → Result Unit Sw → Type 0
+Follows session row done (Ok _) = (refusal_of row ≡ None) × (outcome_of session done ≡ row.done)
+Follows session row done (Err sw) = refusal_of row ≡ Some sw

@@ -15,13 +15,13 @@ mod session_change;
 
 pub use chan::{Chan, Pending};
 pub use decided::Decided;
-pub use delivery::{deliver, delivery_answer, require_le};
+pub use delivery::{answer_by_le, deliver, require_le};
 pub use guard::Guard;
 pub use laws::{
     answers_stay_on_their_channel, fresh_sessions_have_their_channels, sessions_suit_their_cards,
     verified_pins_stand_apart,
 };
-pub use refusal::{answer_alone, conclude, refuse, require, require_active};
+pub use refusal::{conclude, require, require_active};
 pub use session::{CHANNELS, Channels, Refresh, Session, fresh};
 pub use session_change::{ChannelChange, NewEnd, SessionChange};
 

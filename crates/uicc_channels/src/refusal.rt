@@ -1,11 +1,11 @@
 ghost use Rattle.std.specs.Prelude.{◌≡◌, false, IsTrue, MatchResult};
-ghost use Rattle.uicc_channels.specs.CommandOutcome.{answering, outcome_of, refused};
+ghost use Rattle.uicc_channels.specs.CommandOutcome.{outcome_of};
 ghost use Rattle.uicc_channels.specs.CommandRow.{CommandRow, Follows, decided};
 ghost use Rattle.uicc_channels.specs.Life.{life_refusal};
 ghost use Rattle.uicc_channels.specs.declared.session.Session.{Session};
 
-use crate::{Decided, SessionChange};
-use apdu_codec::{Answer, Sw};
+use crate::Decided;
+use apdu_codec::Sw;
 use file_rows::Life;
 
 /// Refuses with the status word unless the need is met.
@@ -28,32 +28,13 @@ pub fn require_active(life: Life) -> Result<(), Sw>
     }
 }
 
-/// An answer that changes nothing.
-pub fn answer_alone(answer: Answer) -> Decided
-    ensures { (session : Session) → outcome_of session result ≡ answering session answer }
+/// Concludes what was decided on a command that was done or refused. One that is refused changes
+/// nothing.
+pub fn conclude(into: &mut Decided, outcome: Result<(), Sw>)
+    ensures { (session : Session) (row : CommandRow) → Follows session row into.old outcome
+        → outcome_of session into.new ≡ decided session row }
 {
-    Decided {
-        answer,
-        session: SessionChange::none(),
-        change: None,
-    }
-}
-
-/// A command that is refused: the status word alone, with nothing changed.
-#[inline(never)]
-pub fn refuse(sw: Sw) -> Decided
-    ensures { (session : Session) → outcome_of session result ≡ refused session sw }
-{
-    answer_alone(Answer::status(sw))
-}
-
-/// What a card decides on a command that was refused or done. One that is refused changes nothing.
-pub fn conclude(outcome: Result<Decided, Sw>) -> Decided
-    ensures { (session : Session) (row : CommandRow) → Follows session row outcome
-        → outcome_of session result ≡ decided session row }
-{
-    match outcome {
-        Ok(done) => done,
-        Err(sw) => refuse(sw),
+    if let Err(sw) = outcome {
+        into.set_status(sw);
     }
 }

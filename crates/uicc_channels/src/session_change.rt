@@ -1,5 +1,5 @@
 //! What a command does to the session of its card.
-ghost use Rattle.std.specs.Prelude.{◌≡◌, ◌<◌, length, Some, option_map};
+ghost use Rattle.std.specs.Prelude.{◌≡◌, ◌<◌, length, Some, None, option_map};
 ghost use Rattle.uicc_channels.specs.Session.{channel_at, with_channel};
 ghost use Rattle.uicc_channels.specs.SessionChange.{no_change, own_change, session_after, with_end, with_place, with_states, within_end};
 
@@ -47,6 +47,34 @@ impl SessionChange {
             verified: None,
             refresh: None,
             new_end: None,
+        }
+    }
+
+    /// Nothing changes, whatever would have changed before.
+    pub fn clear(&mut self)
+        ensures { self.new ≡ no_change }
+    {
+        self.clear_own();
+        self.clear_other();
+        self.verified = None;
+        self.refresh = None;
+        self.new_end = None;
+    }
+
+    // Most commands leave the channels alone, and a channel is large.
+    fn clear_own(&mut self)
+        ensures { self.new ≡ record self.old { own = None } }
+    {
+        if self.own.is_some() {
+            self.own = None;
+        }
+    }
+
+    fn clear_other(&mut self)
+        ensures { self.new ≡ record self.old { other = None } }
+    {
+        if self.other.is_some() {
+            self.other = None;
         }
     }
 

@@ -1,5 +1,5 @@
 //! What no clause says: the status words of a delivery as a modem sees them, and each call once.
-ghost use Rattle.std.specs.Prelude.{◌≡◌};
+ghost use Rattle.std.specs.Prelude.{◌≡◌, ◌≤◌, length};
 
 use super::*;
 use apdu_codec::{Answer, Class, Command, Sw, ins};
@@ -40,12 +40,22 @@ fn delivery_rows() -> [DeliveryRow; 11] {
     ]
 }
 
+// The answer to a command with this Le that has this body.
+fn answered(success: Sw, le: Option<u16>, body: &[u8]) -> Answer
+    requires some { 1 ≤ length body.now }
+    requires most { length body.now ≤ 256 }
+{
+    let mut answer = Answer::status(Sw::WRONG_CLASS);
+    answer_by_le(success, le, body, &mut answer);
+    answer
+}
+
 #[test]
 fn an_answer_is_delivered_by_its_le(rt: HostRuntime) {
     let bytes = [0x62; 256];
     for row in &delivery_rows() {
         assert!(rt; 1 <= row.count && row.count <= 256 && row.given <= 256);
-        let answer = delivery_answer(Sw::OK, row.le, &bytes[..row.count]);
+        let answer = answered(Sw::OK, row.le, &bytes[..row.count]);
         assert_eq!(rt;
             answer.sw,
             Sw(row.sw),
@@ -66,7 +76,7 @@ fn a_warning_takes_the_place_of_9000_alone(rt: HostRuntime) {
         (Some(1), 0x6C02),
     ];
     for (le, sw) in &rows {
-        let answer = delivery_answer(Sw::SELECTED_DEACTIVATED, *le, &[0x62, 0x00]);
+        let answer = answered(Sw::SELECTED_DEACTIVATED, *le, &[0x62, 0x00]);
         assert_eq!(rt; answer.sw, Sw(*sw));
     }
     assert!(rt; require_le(Some(2), &[0x62, 0x00]).is_ok() && require_le(None, &[0x62]).is_ok());
@@ -107,15 +117,20 @@ fn session_with_isdr() -> Session {
 fn an_answer_waits_on_its_own_channel(rt: HostRuntime) {
     let mut session = session_with_isdr();
     let before = session.copy();
+    let mut decided = Decided::new();
     assert!(rt; session.channel_at(0).is_some());
-    let given = deliver(&session, &status_command(Some(2)), &[0x62, 0x00]);
-    assert_eq!(rt; given.answer.sw, Sw(0x9000));
-    session.apply(&given.session);
-    assert!(rt; session == before);
-    assert!(rt; session.channel_at(0).is_some());
-    let decided = deliver(&session, &status_command(None), &[0x62, 0x00]);
+    deliver(
+        &session,
+        &status_command(Some(2)),
+        &[0x62, 0x00],
+        &mut decided,
+    );
+    assert_eq!(rt; decided.answer.sw, Sw(0x9000));
+    assert!(rt; decided.session == SessionChange::none());
+    deliver(&session, &status_command(None), &[0x62, 0x00], &mut decided);
     assert_eq!(rt; decided.answer.sw, Sw(0x6102));
     assert!(rt; decided.change.is_none());
+    assert!(rt; session == before);
     session.apply(&decided.session);
     assert!(rt; waits(&session, 0, &[0x62, 0x00]));
     assert!(rt; waits(&session, 1, &[0x01]));
@@ -154,17 +169,15 @@ fn a_refused_command_changes_nothing(rt: HostRuntime) {
     assert!(rt; require_active(Life::Active).is_ok());
     assert!(rt; require_active(Life::Deactivated) == Err(Sw(0x6984)));
     assert!(rt; require_active(Life::Terminated) == Err(Sw(0x6985)));
-    let rows = [
-        refuse(Sw::WRONG_CLASS),
-        conclude(Err(Sw::WRONG_CLASS)),
-        answer_alone(Answer::status(Sw::WRONG_CLASS)),
-    ];
-    for refused in &rows {
-        assert_eq!(rt; refused.answer.sw, Sw(0x6E00));
-        assert!(rt; refused.answer.body.is_empty());
-        assert!(rt; refused.session == SessionChange::none());
-        assert!(rt; refused.change.is_none());
-    }
+    let mut refused = Decided::new();
+    refused.session = SessionChange::own(1, None);
+    conclude(&mut refused, Ok(()));
+    assert!(rt; refused.session == SessionChange::own(1, None));
+    conclude(&mut refused, Err(Sw::WRONG_CLASS));
+    assert_eq!(rt; refused.answer.sw, Sw(0x6E00));
+    assert!(rt; refused.answer.body.is_empty());
+    assert!(rt; refused.session == SessionChange::none());
+    assert!(rt; refused.change.is_none());
 }
 
 // A channel at a record of an EF in the MF.

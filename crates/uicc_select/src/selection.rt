@@ -16,7 +16,7 @@ use crate::parameters::{Parameters, parameters_of};
 use apdu_codec::{Answer, Command, Sw, class_fits};
 use file_rows::{FileHead, Life, Path, PinRow, parent_of};
 use uicc_channels::{
-    Chan, Decided, Pending, Session, SessionChange, conclude, delivery_answer, require, require_le,
+    Chan, ChannelChange, Decided, Pending, Session, answer_by_le, conclude, require, require_le,
 };
 use uicc_tree::Tree;
 
@@ -120,14 +120,19 @@ fn require_le_for(le: Option<u16>, parameters: &Option<Parameters>) -> Result<()
     }
 }
 
-// The answer to a SELECT with these control parameters, with the status word for success.
-fn answer_selected(success: Sw, le: Option<u16>, parameters: &Option<Parameters>) -> Answer
+// Answers a SELECT with these control parameters, with the status word for success.
+fn answer_selected(
+    success: Sw,
+    le: Option<u16>,
+    parameters: &Option<Parameters>,
+    answer: &mut Answer,
+)
     requires { IfSome parameters.now (λ bytes. 1 ≤ length bytes) }
-    ensures { result ≡ answered_if_some success le parameters.now }
+    ensures { answer.new ≡ answered_if_some success le parameters.now }
 {
     match parameters {
-        None => Answer::status(success),
-        Some(bytes) => delivery_answer(success, le, bytes.as_slice()),
+        None => answer.set_status(success),
+        Some(bytes) => answer_by_le(success, le, bytes.as_slice(), answer),
     }
 }
 
@@ -143,38 +148,44 @@ fn leave_waiting(chan: &mut Chan, le: Option<u16>, parameters: &Option<Parameter
 }
 
 // Selects a file.
-#[inline(never)]
 fn select_file(
     session: &Session,
     command: &Command,
     target: &Target,
     head: &FileHead,
     parameters: &Option<Parameters>,
-) -> Decided
+    into: &mut Decided,
+)
     requires open { IsOpen session.now command.now.channel }
     requires some { IfSome parameters.now (λ bytes. 1 ≤ length bytes) }
-    ensures { outcome_of session.now result
+    ensures { outcome_of session.now into.new
         ≡ selecting session.now (apdu_of command.now) target.now parameters.now head.now }
 {
     let mut after = standing_at(session.open_channel(command.channel), target, head);
     leave_waiting(&mut after, command.le, parameters);
-    Decided {
-        answer: answer_selected(selected_status(head.life), command.le, parameters),
-        session: SessionChange::own(command.channel, Some(after)),
-        change: None,
-    }
+    into.set_status(Sw::OK);
+    answer_selected(
+        selected_status(head.life),
+        command.le,
+        parameters,
+        &mut into.answer,
+    );
+    into.session.own = Some(ChannelChange {
+        channel: command.channel,
+        after: Some(after),
+    });
 }
 
 // Selects the ISD-R.
-fn select_isdr(command: &Command) -> Decided
-    ensures { (session : Session) → outcome_of session result
+fn select_isdr(command: &Command, into: &mut Decided)
+    ensures { (session : Session) → outcome_of session into.new
         ≡ selecting_isdr session (apdu_of command.now) }
 {
-    Decided {
-        answer: Answer::status(Sw::OK),
-        session: SessionChange::own(command.channel, Some(Chan::at_isdr())),
-        change: None,
-    }
+    into.set_status(Sw::OK);
+    into.session.own = Some(ChannelChange {
+        channel: command.channel,
+        after: Some(Chan::at_isdr()),
+    });
 }
 
 /// SELECT (ETSI TS 102 221): by file identifier, of a directory in the current one, of the parent,
@@ -193,17 +204,19 @@ pub fn select(
     session: &Session,
     isdr_here: bool,
     command: &Command,
-) -> Decided
+    into: &mut Decided,
+)
     requires files { AreRows (rows_of tree.now) }
     requires open { IsOpen session.now command.now.channel }
-    ensures value { outcome_of session.now result
+    ensures value { outcome_of session.now into.new
         ≡ decided session.now (select_row (rows_of tree.now) pins.now session.now isdr_here
         (apdu_of command.now)) }
     ensures suits { Suits session.now (rows_of tree.now)
-        → Suits (session_after session.now result.session) (rows_of tree.now) }
-    ensures content { result.change ≡ None }
+        → Suits (session_after session.now into.new.session) (rows_of tree.now) }
+    ensures content { into.new.change ≡ None }
 {
-    conclude(try_select(tree, pins, session, isdr_here, command))
+    let outcome = try_select(tree, pins, session, isdr_here, command, into);
+    conclude(into, outcome);
 }
 
 fn try_select(
@@ -212,12 +225,13 @@ fn try_select(
     session: &Session,
     isdr_here: bool,
     command: &Command,
-) -> Result<Decided, Sw>
+    into: &mut Decided,
+) -> Result<(), Sw>
     requires files { AreRows (rows_of tree.now) }
     requires open { IsOpen session.now command.now.channel }
     ensures { Follows session.now
         (select_row (rows_of tree.now) pins.now session.now isdr_here
-        (apdu_of command.now)) result }
+        (apdu_of command.now)) into.new result }
 {
     require(class_fits(command.ins, command.class), Sw::WRONG_CLASS)?;
     require(are_of_select(command.p1, command.p2), Sw::WRONG_P1_P2)?;
@@ -225,7 +239,8 @@ fn try_select(
         return Err(Sw::WRONG_LENGTH);
     };
     if isdr_here && names_isdr(&target) {
-        return Ok(select_isdr(command));
+        select_isdr(command, into);
+        return Ok(());
     }
     let chan = session.open_channel(command.channel);
     let Some(node) = find(tree, chan, &target) else {
@@ -233,5 +248,13 @@ fn try_select(
     };
     let parameters = parameters_for(tree, pins, node, command.p2);
     require_le_for(command.le, &parameters)?;
-    Ok(select_file(session, command, &target, tree.head(node), &parameters))
+    select_file(
+        session,
+        command,
+        &target,
+        tree.head(node),
+        &parameters,
+        into,
+    );
+    Ok(())
 }

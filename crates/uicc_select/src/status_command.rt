@@ -9,9 +9,9 @@ ghost use Rattle.uicc_tree.specs.Files.{rows_of};
 ghost use Rattle.uicc_select.specs.Status.{are_of_status, name_object, name_of_application, parameters_of_directory, status_row};
 
 use crate::parameters::{Parameters, parameters_of};
-use apdu_codec::{Answer, AnswerBody, Command, Sw, class_fits};
+use apdu_codec::{AnswerBody, Command, Sw, class_fits};
 use file_rows::{Name, PinRow};
-use uicc_channels::{Chan, Decided, Session, answer_alone, conclude, deliver, require};
+use uicc_channels::{Chan, Decided, Session, conclude, deliver, require};
 use uicc_tree::Tree;
 
 // Whether these P1 and P2 are those of a STATUS.
@@ -59,17 +59,24 @@ fn name_of_application(tree: &Tree, chan: &Chan) -> Option<AnswerBody>
 /// The answer body is delivered by its length and Le. A card without an MF has no current
 /// directory (`6A82`), and a channel may have no application (`6A88`). Nothing but what waits on
 /// the channel changes; a session that suits the files goes on to suit them. It takes no memory.
-pub fn status(tree: &Tree, pins: &[PinRow], session: &Session, command: &Command) -> Decided
+pub fn status(
+    tree: &Tree,
+    pins: &[PinRow],
+    session: &Session,
+    command: &Command,
+    into: &mut Decided,
+)
     requires files { AreRows (rows_of tree.now) }
     requires open { IsOpen session.now command.now.channel }
-    ensures value { outcome_of session.now result
+    ensures value { outcome_of session.now into.new
         ≡ decided session.now (status_row (rows_of tree.now) pins.now session.now
         (apdu_of command.now)) }
     ensures suits { Suits session.now (rows_of tree.now)
-        → Suits (session_after session.now result.session) (rows_of tree.now) }
-    ensures content { result.change ≡ None }
+        → Suits (session_after session.now into.new.session) (rows_of tree.now) }
+    ensures content { into.new.change ≡ None }
 {
-    conclude(try_status(tree, pins, session, command))
+    let outcome = try_status(tree, pins, session, command, into);
+    conclude(into, outcome);
 }
 
 fn try_status(
@@ -77,11 +84,12 @@ fn try_status(
     pins: &[PinRow],
     session: &Session,
     command: &Command,
-) -> Result<Decided, Sw>
+    into: &mut Decided,
+) -> Result<(), Sw>
     requires files { AreRows (rows_of tree.now) }
     requires open { IsOpen session.now command.now.channel }
     ensures { Follows session.now
-        (status_row (rows_of tree.now) pins.now session.now (apdu_of command.now)) result }
+        (status_row (rows_of tree.now) pins.now session.now (apdu_of command.now)) into.new result }
 {
     require(class_fits(command.ins, command.class), Sw::WRONG_CLASS)?;
     require(are_of_status(command.p1, command.p2), Sw::WRONG_P1_P2)?;
@@ -92,14 +100,15 @@ fn try_status(
             let Some(parameters) = parameters_of_directory(tree, pins, chan) else {
                 return Err(Sw::FILE_NOT_FOUND);
             };
-            Ok(deliver(session, command, parameters.as_slice()))
+            deliver(session, command, parameters.as_slice(), into);
         }
         0x01 => {
             let Some(name) = name_of_application(tree, chan) else {
                 return Err(Sw::DATA_NOT_FOUND);
             };
-            Ok(deliver(session, command, name.as_slice()))
+            deliver(session, command, name.as_slice(), into);
         }
-        _ => Ok(answer_alone(Answer::status(Sw::OK))),
+        _ => into.set_status(Sw::OK),
     }
+    Ok(())
 }

@@ -10,7 +10,7 @@ use super::*;
 use apdu_codec::{Answer, Class, Command, Sw, class_fits, ins};
 use sample::{AID, blank_tree, pin, sample_tree};
 use std::test::Fail;
-use uicc_channels::{Session, fresh};
+use uicc_channels::{Decided, Session, fresh};
 use uicc_tree::Tree;
 
 // A command on channel 0, with the class of its instruction.
@@ -46,7 +46,8 @@ fn select_on(
         .channel_at(command.channel)
         .ok_or("an open channel")?;
     let pins = [pin(1, 0x01), pin(2, 0x0A)];
-    let decided = select(tree, &pins, session, isdr_here, command);
+    let mut decided = Decided::new();
+    select(tree, &pins, session, isdr_here, command, &mut decided);
     session.apply(&decided.session);
     Ok(decided.answer)
 }
@@ -59,7 +60,8 @@ fn status_on(tree: &Tree, session: &mut Session, command: &Command) -> Result<An
         .channel_at(command.channel)
         .ok_or("an open channel")?;
     let pins = [pin(1, 0x01), pin(2, 0x0A)];
-    let decided = status(tree, &pins, session, command);
+    let mut decided = Decided::new();
+    status(tree, &pins, session, command, &mut decided);
     session.apply(&decided.session);
     Ok(decided.answer)
 }

@@ -12,14 +12,14 @@ use Rattle.card_run.proofs.demo.reply.Goals as goal
 -- what was decided was carried out
 pub returns-in_ok-reserve-in-Ok-clause-given : goal.returns-in_ok-reserve-in-Ok-clause-given
 returns-in_ok-reserve-in-Ok-clause-given c =
-    let decided = c.decide-decided.result in
+    let decided = c.decide_into.new.into in
     let command : Apdu = apdu_of c.in-Ok.command in
     let same = c.in_ok-reserve-in-Ok.ensures.card in
     let outcome : Outcome = record { answer = Some decided.answer; card = card_of c.settle.new.self; change = decided.change } in
     let step = c.settle.ensures.step c.args.bytes.now command c.in-Ok.ensures.spelled
-    (subst (λ (card : Card). outcome_at card decided ≡ decision card command) (sym same) c.decide-decided.ensures.decision) in
+    (subst (λ (card : Card). outcome_at card decided ≡ decision card command) (sym same) c.decide_into.ensures.decision) in
     let line : c.push_answer.new.text.items ≡ c.args.text.now.items ++ answer_line c.args.number decided.answer =
-    c.in_ok-push_answer-in-Ok.ensures ∙ ap (λ (body : List ℕ). c.args.text.now.items ++ answer_line c.args.number (record { body = body; sw = decided.answer.sw })) c.as_slice.ensures.value in
+    c.in_ok-push_answer-in-Ok.ensures ∙ ap (λ (body : List ℕ). c.args.text.now.items ++ answer_line c.args.number (record { body = body; sw = decided.answer.sw })) c.as_slice-body.ensures.value in
     (decided.answer, (decided.change, subst (λ (card : Card). Steps card (Command c.args.bytes.now) outcome) same step), line)
 
 -- the refusal of bytes that spell no command

@@ -11,20 +11,20 @@ use Rattle.uicc_select.proofs.status_command.status.Goals as goal
 
 pub returns-clause-value : goal.returns-clause-value
 returns-clause-value c =
-    c.conclude.ensures c.args.session.now (status_row (rows_of c.args.tree.now) c.args.pins.now c.args.session.now (apdu_of c.args.command.now)) c.try_status.ensures
+    c.conclude.ensures c.args.session.now (status_row (rows_of c.args.tree.now) c.args.pins.now c.args.session.now (apdu_of c.args.command.now)) c.try_status-outcome.ensures
 
 pub returns-clause-suits : goal.returns-clause-suits
 returns-clause-suits c suits =
     let row : CommandRow = status_row (rows_of c.args.tree.now) c.args.pins.now c.args.session.now (apdu_of c.args.command.now) in
-    let value : outcome_of c.args.session.now c.conclude.result ≡ decided c.args.session.now row =
-    c.conclude.ensures c.args.session.now row c.try_status.ensures in
+    let value : outcome_of c.args.session.now c.conclude.new.into ≡ decided c.args.session.now row =
+    c.conclude.ensures c.args.session.now row c.try_status-outcome.ensures in
     subst (λ (outcome : CommandOutcome). Suits outcome.session (rows_of c.args.tree.now)) (sym value)
     (Suits-status (rows_of c.args.tree.now) c.requires.files c.args.session.now suits c.args.pins.now (apdu_of c.args.command.now))
 
 pub returns-clause-content : goal.returns-clause-content
 returns-clause-content c =
     let row : CommandRow = status_row (rows_of c.args.tree.now) c.args.pins.now c.args.session.now (apdu_of c.args.command.now) in
-    let value : outcome_of c.args.session.now c.conclude.result ≡ decided c.args.session.now row =
-    c.conclude.ensures c.args.session.now row c.try_status.ensures in
+    let value : outcome_of c.args.session.now c.conclude.new.into ≡ decided c.args.session.now row =
+    c.conclude.ensures c.args.session.now row c.try_status-outcome.ensures in
     ap (λ (outcome : CommandOutcome). outcome.change) value
     ∙ change-status (rows_of c.args.tree.now) c.args.pins.now c.args.session.now (apdu_of c.args.command.now)

@@ -11,14 +11,14 @@ pub returns-in_err-require : goal.returns-in_err-require
 returns-in_err-require c =
     let row : CommandRow = status_row (rows_of c.args.tree.now) c.args.pins.now c.args.session.now (apdu_of c.args.command.now) in
     let e = c.in_err-require.ensures in
-    Follows-refused c.args.session.now row _ _ _ c.from_residual.ensures.1 e.1
+    Follows-refused c.args.session.now row c.args.into.now _ _ _ c.from_residual.ensures.1 e.1
     (class_refused row.needs (record { channel = c.requires.open; instruction = refl }) (sym c.class_fits.ensures ∙ e.0))
 
 pub returns-in_err-require-2 : goal.returns-in_err-require-2
 returns-in_err-require-2 c =
     let row : CommandRow = status_row (rows_of c.args.tree.now) c.args.pins.now c.args.session.now (apdu_of c.args.command.now) in
     let e = c.in_err-require-2.ensures in
-    Follows-refused c.args.session.now row _ _ _ c.from_residual-in_err-require-2.ensures.1 e.1
+    Follows-refused c.args.session.now row c.args.into.now _ _ _ c.from_residual-in_err-require-2.ensures.1 e.1
     (parameters_refused row.needs (record { channel = c.requires.open; instruction = refl })
     (sym c.class_fits.ensures ∙ c.in_ok-require.ensures)
     (sym c.are_of_status.ensures ∙ e.0))
@@ -27,7 +27,7 @@ pub returns-in_err-require-3 : goal.returns-in_err-require-3
 returns-in_err-require-3 c =
     let row : CommandRow = status_row (rows_of c.args.tree.now) c.args.pins.now c.args.session.now (apdu_of c.args.command.now) in
     let e = c.in_err-require-3.ensures in
-    Follows-refused c.args.session.now row _ _ _ c.from_residual-in_err-require-3.ensures.1 e.1
+    Follows-refused c.args.session.now row c.args.into.now _ _ _ c.from_residual-in_err-require-3.ensures.1 e.1
     (lengths_refused row.needs (record { channel = c.requires.open; instruction = refl })
     (sym c.class_fits.ensures ∙ c.in_ok-require.ensures)
     (sym c.are_of_status.ensures ∙ c.in_ok-require-2.ensures)
