@@ -105,6 +105,15 @@ impl<T: Drop, const CAP: usize> ShortList<T, CAP> {
         self.elements.push(element);
     }
 
+    /// Puts an element in the place of the one at `index`, counted from 0. It moves no other.
+    #[inline]
+    pub fn set(&mut self, index: usize, element: T)
+        requires { index < length self.old }
+        ensures { self.new ≡ slice_set self.old index element }
+    {
+        self.elements.as_mut_slice()[index] = element;
+    }
+
     /// Puts an element in the place of the one at `index`, counted from 0, and returns that one.
     /// It moves no other.
     pub fn replace(&mut self, index: usize, element: T) -> T

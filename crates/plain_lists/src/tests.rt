@@ -13,10 +13,14 @@ fn a_short_list_holds_what_it_is_given(rt: HostRuntime) -> Result<(), Fail> {
     assert_eq!(rt; path.len(), 2);
     assert_eq!(rt; path, ShortList::from_slice(&[0x7F10, 0x6F3A]));
     assert_ne!(rt; path.copy(), ShortList::from_slice(&[0x7F10]));
-    assert_eq!(rt; path.replace(1, 0x6F3B), 0x6F3A);
+    assert_eq!(rt; path.replace(1, 0x6F3C), 0x6F3A);
+    path.set(1, 0x6F3B);
     path.extend_from_slice(&[0x0001]);
     assert_eq!(rt; path.as_slice(), [0x7F10, 0x6F3B, 0x0001].as_slice());
     let elements: ArrayVec<u16, 4> = path.into();
+    let mut none = ShortList::<u16, 4>::from_slice(&[1, 2]);
+    none.clear();
+    assert!(rt; none.is_empty());
     let again = ShortList::from(elements);
     assert_eq!(rt; again.len(), 3);
     Ok(())

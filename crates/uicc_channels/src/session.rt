@@ -140,9 +140,9 @@ pub fn fresh(refresh: bool, kept: Option<u8>) -> Session
         None => session,
         Some(number) => {
             let mut session = session;
-            let _before = session
+            session
                 .channels
-                .replace(usize::from(number), Some(Chan::at_isdr()));
+                .set(usize::from(number), Some(Chan::at_isdr()));
             session
         }
     }

@@ -107,7 +107,7 @@ impl Session {
     {
         let number = usize::from(change.channel);
         if number < self.channels.len() {
-            let _before = self.channels.replace(number, copy_place(&change.after));
+            self.channels.set(number, copy_place(&change.after));
         }
     }
 
@@ -132,7 +132,7 @@ impl Session {
             (option_map (within_end end.now) (channel_at self.old number)) }
     {
         let place = self.channels.replace(number, None);
-        let _none = self.channels.replace(number, within_end(place, end));
+        self.channels.set(number, within_end(place, end));
     }
 
     fn drop_pointers(&mut self, end: &NewEnd)

@@ -8,7 +8,7 @@ returns c =
     let was : get_or c.args.self.now.channels c.args.number None ≡ c.replace-place.result =
     get_or_from_slice_get c.args.self.now.channels c.args.number c.replace-place.result None c.replace-place.ensures.value in
     rw (
-      c.replace-none.ensures.after,
+      c.set.ensures,
       c.replace-place.ensures.after,
       c.within_end.ensures,
       ← was,
