@@ -80,4 +80,17 @@ impl Chan {
             pending: Pending::from_slice(bytes),
         }
     }
+
+    // It is a copy of that channel afterwards. It moves only the bytes that wait there.
+    pub(crate) fn assign(&mut self, other: &Chan)
+        ensures { self.new ≡ other.now }
+    {
+        self.isdr = other.isdr;
+        self.app = copy_path(&other.app);
+        self.dir = other.dir.copy();
+        self.file = copy_path(&other.file);
+        self.pointer = other.pointer;
+        self.pending.clear();
+        self.pending.extend_from_slice(other.pending.as_slice());
+    }
 }

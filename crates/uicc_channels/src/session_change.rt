@@ -100,6 +100,17 @@ fn within_end(place: Option<Chan>, end: &NewEnd) -> Option<Chan>
     Some(chan)
 }
 
+// The place of a channel is a copy of that one afterwards. A channel that stays open is changed
+// where it lies.
+fn assign_place(place: &mut Option<Chan>, after: &Option<Chan>)
+    ensures { place.new ≡ after.now }
+{
+    match (place.as_mut(), after) {
+        (Some(chan), Some(after)) => chan.assign(after),
+        _ => *place = copy_place(after),
+    }
+}
+
 impl Session {
     // Puts what stands afterwards in the place of a channel there.
     fn place(&mut self, change: &ChannelChange)
@@ -107,7 +118,9 @@ impl Session {
     {
         let number = usize::from(change.channel);
         if number < self.channels.len() {
-            self.channels.set(number, copy_place(&change.after));
+            let mut place = self.channels.replace(number, None);
+            assign_place(&mut place, &change.after);
+            self.channels.set(number, place);
         }
     }
 
