@@ -1,18 +1,18 @@
-use Rattle.std.proofs.Common.{◌≡◌, ℕ, Bool, true, false, cond, sym, subst, Option, Some, None, IfSome}
+use Rattle.std.proofs.Common.{◌≡◌, Bool, true, false, cond, sym, subst, Option, Some, None, IfSome}
 use Rattle.std.specs.Prelude.{◌==◌}
 use Rattle.apdu_codec.specs.Command.{Apdu}
 use Rattle.apdu_codec.specs.declared.status.Sw.{Sw}
 use Rattle.file_rows.specs.Change.{Fits}
 use Rattle.file_rows.specs.declared.change.Change.{Change}
 use Rattle.uicc_channels.specs.CommandOutcome.{CommandOutcome, refused}
-use Rattle.uicc_channels.specs.CommandRow.{CommandRow, decided, refusal_of, refused_or}
+use Rattle.uicc_channels.specs.CommandRow.{CommandRow, refusal_of, refused_or}
 use Rattle.uicc_channels.specs.Session.{Suits}
 use Rattle.uicc_select.proofs.SelectionLemmas.{change-select_row, change-status_row}
 use Rattle.uicc_select.proofs.SuitsLemmas.{AreRows-valid, Suits-select_row, Suits-status_row}
 use Rattle.uicc_select.specs.Select.{select_row}
 use Rattle.uicc_select.specs.Status.{status_row}
 use Rattle.profile_card.specs.Card.{Card, IsSound, MayFollow, content_after, isdr_here}
-use Rattle.profile_card.specs.Commands.{command_row, decision, not_at_isdr, unknown_row}
+use Rattle.profile_card.specs.Commands.{command_row, decision, unknown_row}
 use Rattle.profile_card.specs.ReadBinary.{read_binary_row}
 
 module _ (card : Card) (sound : IsSound card) where

@@ -1,4 +1,4 @@
-use Rattle.std.proofs.Common.{◌≡◌, ◌≢◌, ℕ, List, [], ◌∷◌, length, get_or, false, inl, inr, refl, ap, lit≤, arith, Some, None}
+use Rattle.std.proofs.Common.{◌≡◌, ◌≢◌, ℕ, List, [], ◌∷◌, length, get_or, inl, inr, refl, ap, lit≤, arith}
 use Rattle.plain_lists.specs.EachTwo.{EachTwo}
 use Rattle.std.specs.List.{AllByRecursion}
 use Rattle.file_rows.specs.Content.{AreFiles, ArePins, IsValid, heads_of, use_of}

@@ -1,14 +1,13 @@
-use Rattle.std.specs.Prelude.{ℕ, ◌==◌, ◌&&◌, ◌||◌, if◌then◌else◌, Bool, List, [], ◌∷◌, length, Option, Some, None, option_map, unwrap_or, is_some}
+use Rattle.std.specs.Prelude.{ℕ, ◌==◌, ◌&&◌, ◌||◌, if◌then◌else◌, Bool, List, [], ◌∷◌, length, Option, None, option_map, unwrap_or, is_some}
 use Rattle.apdu_codec.specs.Answer.{status_alone}
 use Rattle.apdu_codec.specs.Command.{Apdu}
-use Rattle.apdu_codec.specs.declared.status.Sw.{Sw}
 use Rattle.apdu_codec.specs.declared.status.TheConstants.Sw.{DATA_NOT_FOUND, FILE_NOT_FOUND, OK}
 use Rattle.fcp_codec.specs.Writing.{written_fcp}
 use Rattle.file_rows.specs.Content.{file_at}
 use Rattle.file_rows.specs.Find.{file_of_path}
 use Rattle.file_rows.specs.declared.pin.PinRow.{PinRow}
 use Rattle.file_rows.specs.declared.row.FileRow.{FileRow}
-use Rattle.uicc_channels.specs.CommandOutcome.{CommandOutcome, answering}
+use Rattle.uicc_channels.specs.CommandOutcome.{answering}
 use Rattle.uicc_channels.specs.CommandRow.{CommandRow}
 use Rattle.uicc_channels.specs.Delivery.{delivered}
 use Rattle.uicc_channels.specs.Needs.{needs_of, refused_unless}
