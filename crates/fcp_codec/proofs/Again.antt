@@ -21,14 +21,15 @@ use Rattle.file_rows.specs.declared.pin.PinRow.{PinRow}
 use Rattle.fcp_codec.specs.declared.fcp.Fcp.{Fcp}
 use Rattle.fcp_codec.specs.declared.fcp.RuleRef.{RuleRef}
 use Rattle.fcp_codec.specs.declared.fcp.RuleRef.TheVariants.{Whole}
-use Rattle.fcp_codec.specs.declared.status.PinStatus.{PinStatus}
-use Rattle.fcp_codec.specs.declared.status.TheConstants.{KEYS}
+use Rattle.fcp_codec.specs.declared.pin_status.PinStatus.{PinStatus}
+use Rattle.fcp_codec.specs.declared.pin_status.TheConstants.{KEYS}
 use Rattle.fcp_codec.specs.declared.tags.TheConstants.{SIZE, DESCRIPTOR, IDENTIFIER, NAME, SFI, LIFE, RULE, PROPRIETARY, PIN_STATUS, ENABLED}
 use Rattle.fcp_codec.specs.FileForm.{form_of}
 use Rattle.fcp_codec.specs.Values.{id_of, size_of, sfi_of, life_of}
 use Rattle.fcp_codec.specs.RuleRef.{rule_of}
 use Rattle.fcp_codec.specs.PinStatus.{status_of, statuses_of, status_objects, template_of, key_object, status_bytes}
-use Rattle.fcp_codec.specs.Writing.{descriptor_for, own_id, life_byte, name_objects, proprietary_objects, rule_objects, last_objects, objects_for, fcp_for, name_for, size_for, sfi_for, FitsFields}
+use Rattle.file_rows.specs.Path.{own_id}
+use Rattle.fcp_codec.specs.Writing.{descriptor_for, life_byte, name_objects, proprietary_objects, rule_objects, last_objects, objects_for, fcp_for, name_for, size_for, sfi_for, FitsFields}
 use Rattle.fcp_codec.specs.Reading.{NoneIsBad, fcp_of, ReadsAs}
 
 -- two bytes say the number

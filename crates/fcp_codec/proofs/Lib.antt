@@ -3,3 +3,4 @@ pub mod Answering
 pub mod Listing
 pub mod Joining
 pub mod Again
+pub mod KeyLemmas

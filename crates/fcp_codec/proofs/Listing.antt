@@ -3,7 +3,7 @@ use Rattle.std.proofs.Common.{◌≡◌, ℕ, zero, suc, ◌+◌, ◌<◌, ◌�
 use Rattle.std.specs.List.{filter_map, cons_option}
 use Rattle.ber_tlv.specs.Tlv.{shortest}
 use Rattle.ber_tlv.specs.Walk.{spelled}
-use Rattle.fcp_codec.specs.declared.status.PinStatus.{PinStatus}
+use Rattle.fcp_codec.specs.declared.pin_status.PinStatus.{PinStatus}
 use Rattle.fcp_codec.specs.declared.tags.TheConstants.{PIN_STATUS, ENABLED}
 use Rattle.fcp_codec.specs.PinStatus.{template_of, status_objects, key_object, status_bytes}
 

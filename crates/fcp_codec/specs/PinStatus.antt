@@ -5,8 +5,8 @@ use Rattle.std.specs.Int.{w32, to_be_bytes, div_ceil}
 use Rattle.ber_tlv.specs.Walk.{Object, spelled}
 use Rattle.file_rows.specs.Path.{master, same_path}
 use Rattle.file_rows.specs.declared.pin.PinRow.{PinRow}
-use Rattle.fcp_codec.specs.declared.status.PinStatus.{PinStatus}
-use Rattle.fcp_codec.specs.declared.status.TheConstants.{KEYS}
+use Rattle.fcp_codec.specs.declared.pin_status.PinStatus.{PinStatus}
+use Rattle.fcp_codec.specs.declared.pin_status.TheConstants.{KEYS}
 use Rattle.fcp_codec.specs.declared.tags.TheConstants.{PIN_STATUS, ENABLED, KEY}
 
 -- whether a PIN counts in a directory: the PINs at home in the MF count everywhere, the others at home
@@ -22,6 +22,10 @@ status_of path pins key =
 -- the statuses of the PINs that count in a directory in the order of their keys, the global ones first
 abbrev pub statuses_of : List ℕ → List PinRow → List PinStatus
 statuses_of path pins = filter_map (status_of path pins) KEYS
+
+-- the keys of those PINs
+abbrev pub keys_of : List ℕ → List PinRow → List ℕ
+keys_of path pins = map (λ (status : PinStatus). status.key) (statuses_of path pins)
 
 -- one bit for each status, from this one on downwards, set where it is enabled
 abbrev pub bits_of : ℕ → List PinStatus → ℕ

@@ -1,9 +1,10 @@
 -- A file's control parameters as a card writes them (ETSI TS 102 221).
-use Rattle.std.specs.Prelude.{ℕ, ◌-◌, ◌*◌, ◌/◌, ◌^◌, ◌<◌, ◌≤◌, Bool, true, false, List, [], ◌∷◌, ◌++◌, Option, Some, None, unwrap_or, option_map, IfSome, length, slice_get, if◌then◌else◌, ◌==◌}
+use Rattle.std.specs.Prelude.{ℕ, ◌*◌, ◌/◌, ◌^◌, ◌<◌, ◌≤◌, Bool, true, false, List, [], ◌∷◌, ◌++◌, Option, Some, None, option_map, IfSome, length, if◌then◌else◌, ◌==◌}
 use Rattle.std.specs.Int.{w16, to_be_bytes}
 use Rattle.ber_tlv.specs.Tlv.{shortest}
 use Rattle.ber_tlv.specs.Walk.{Object, spelled}
 use Rattle.file_rows.specs.FileHead.{holds_files}
+use Rattle.file_rows.specs.Path.{own_id}
 use Rattle.file_rows.specs.declared.head.FileHead.{FileHead}
 use Rattle.file_rows.specs.declared.head.Kind.{Kind}
 use Rattle.file_rows.specs.declared.head.Kind.TheVariants.{Master, Directory, Application, Transparent, Linear, Cyclic}
@@ -24,10 +25,6 @@ descriptor_for Application record_len size = 0x78 ∷ 0x21 ∷ []
 descriptor_for Transparent record_len size = 0x41 ∷ 0x21 ∷ []
 descriptor_for Linear record_len size = 0x42 ∷ 0x21 ∷ 0 ∷ record_len ∷ size / record_len ∷ []
 descriptor_for Cyclic record_len size = 0x46 ∷ 0x21 ∷ 0 ∷ record_len ∷ size / record_len ∷ []
-
--- the last identifier of the path, and 3F00 for the MF
-abbrev pub own_id : List ℕ → ℕ
-own_id path = unwrap_or (slice_get path (length path - 1)) 0x3F00
 
 abbrev pub life_byte : Life → ℕ
 life_byte Active = 5
@@ -65,8 +62,8 @@ objects_for head pins =
     ++ record { tag = LIFE; value = life_byte head.life ∷ [] }
     ∷ rule_objects head.rule ++ last_objects (holds_files head.kind) head pins
 
-abbrev pub written : FileHead → List PinRow → List ℕ
-written head pins = shortest TEMPLATE (spelled (objects_for head pins))
+abbrev pub written_fcp : FileHead → List PinRow → List ℕ
+written_fcp head pins = shortest TEMPLATE (spelled (objects_for head pins))
 
 -- the name, where there is one
 abbrev pub name_for : List ℕ → Option (List ℕ)

@@ -5,17 +5,17 @@
 mod fault;
 mod fcp;
 mod laws;
+mod pin_status;
 mod read;
-mod status;
 mod tags;
 mod values;
 mod write;
 
 pub use fault::FcpFault;
 pub use fcp::{Fcp, FileForm, RuleRef};
-pub use laws::written_is_read;
+pub use laws::{pins_are_listed_by_key, written_is_read};
 pub use read::read_fcp;
-pub use write::{own_id, put_fcp};
+pub use write::put_fcp;
 
 #[cfg(test)]
 mod tests;

@@ -157,14 +157,3 @@ fn takes_other_spellings(rt: HostRuntime) -> Result<(), Fail> {
     );
     Ok(())
 }
-
-#[test]
-fn a_file_is_named_by_its_last_identifier(rt: HostRuntime) {
-    assert_eq!(rt; own_id(&Path::new()), 0x3F00);
-    assert_eq!(rt; own_id(&Path::from_slice(&[0x7F10, 0x6F3A])), 0x6F3A);
-}
-
-#[test]
-fn the_law_of_the_coding_is_callable() {
-    written_is_read();
-}

@@ -6,12 +6,12 @@ ghost use Rattle.ber_tlv.specs.Tlv.{shortest};
 ghost use Rattle.ber_tlv.specs.Walk.{spelled};
 ghost use Rattle.file_rows.specs.FileHead.{IsFile, HoldsRecords, holds_files};
 ghost use Rattle.fcp_codec.specs.declared.tags.TheConstants.{DESCRIPTOR};
-ghost use Rattle.fcp_codec.specs.Writing.{descriptor_for, own_id, life_byte, name_objects, proprietary_objects, rule_objects, sfi_objects, last_objects, objects_for, written};
+ghost use Rattle.fcp_codec.specs.Writing.{descriptor_for, life_byte, name_objects, proprietary_objects, rule_objects, sfi_objects, last_objects, objects_for, written_fcp};
 
-use crate::{status, tags};
+use crate::{pin_status, tags};
 use arrayvec::ArrayVec;
 use ber_tlv::put_tlv;
-use file_rows::{FileHead, Kind, Life, Name, Path, PinRow, Rule};
+use file_rows::{FileHead, Kind, Life, Name, PinRow, Rule, own_id};
 use plain_lists::ShortList;
 
 /// Appends a field with a tag of one byte and a short value, for which there is room.
@@ -54,13 +54,6 @@ fn push_descriptor(fields: &mut ArrayVec<u8, 127>, head: &FileHead)
             push_field(fields, tags::DESCRIPTOR, &value);
         }
     }
-}
-
-/// The identifier of the file at a path: the last one of the path, and 3F00 for the MF.
-pub fn own_id(path: &Path) -> u16
-    ensures { result ≡ own_id path.now }
-{
-    path.as_slice().last().copied().unwrap_or(0x3F00)
 }
 
 fn push_name(fields: &mut ArrayVec<u8, 127>, name: &Name)
@@ -122,7 +115,7 @@ fn push_last(fields: &mut ArrayVec<u8, 127>, head: &FileHead, pins: &[PinRow])
         ++ spelled (last_objects (holds_files head.now.kind) head.now pins.now) }
 {
     if head.kind.holds_files() {
-        status::push_status(fields, head.path.as_slice(), pins);
+        pin_status::push_status(fields, head.path.as_slice(), pins);
     } else {
         push_field(fields, tags::SIZE, &head.size.to_be_bytes());
         push_sfi(fields, head.sfi);
@@ -148,7 +141,7 @@ fn push_fields(fields: &mut ArrayVec<u8, 127>, head: &FileHead, pins: &[PinRow])
 /// then the ones at home in it. For an EF they aren't looked at.
 pub fn put_fcp(head: &FileHead, pins: &[PinRow]) -> ShortList<u8, 130>
     requires { IsFile head.now }
-    ensures { result ≡ written head.now pins.now }
+    ensures { result ≡ written_fcp head.now pins.now }
 {
     let mut fields = ArrayVec::new();
     push_fields(&mut fields, head, pins);

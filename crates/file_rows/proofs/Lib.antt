@@ -3,3 +3,13 @@ pub mod FormLemmas
 pub mod EachLemmas
 pub mod FilesLemmas
 pub mod PinsLemmas
+pub mod ListLemmas
+pub mod FindLemmas
+pub mod PathLemmas
+pub mod TreeLemmas
+pub mod EditLemmas
+pub mod AddLemmas
+pub mod PinSetLemmas
+pub mod GoneLemmas
+pub mod ConditionLemmas
+pub mod PinChangeLemmas

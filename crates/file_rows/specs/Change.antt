@@ -41,6 +41,16 @@ with_life life row = record { head = record row.head { life = life }; body = row
 abbrev pub with_size : ℕ → FileRow → FileRow
 with_size size row = record { head = record row.head { size = size }; body = resized size row.body }
 
+-- the named file after a change that it outlasts
+abbrev pub file_after : Change → FileRow → FileRow
+file_after (WriteRange path offset bytes) row = with_body (written offset bytes) row
+file_after (WriteRecord path number bytes) row = with_body (with_record number bytes) row
+file_after (PinSet set) row = row
+file_after (FileAdd head) row = row
+file_after (FileGone path) row = row
+file_after (FileState path life) row = with_life life row
+file_after (FileSize path size) row = with_size size row
+
 -- the PINs, with the one of that number set
 abbrev pub with_pin : PinRow → List PinRow → List PinRow
 with_pin set pins = map (λ pin. if pin.number == set.number then set else pin) pins
@@ -99,3 +109,13 @@ Touches (FileAdd head) file = head.path ≡ file
 Touches (FileGone path) file = IsTrue (stands_below path file)
 Touches (FileState path life) file = path ≡ file
 Touches (FileSize path size) file = path ≡ file
+
+-- the PIN is the one that the change sets, or one that goes with its home
+abbrev pub TouchesPin : Change → PinRow → Type 0
+TouchesPin (WriteRange path offset bytes) pin = ⊥
+TouchesPin (WriteRecord path number bytes) pin = ⊥
+TouchesPin (PinSet set) pin = pin.number ≡ set.number
+TouchesPin (FileAdd head) pin = ⊥
+TouchesPin (FileGone path) pin = IsTrue (stands_below path pin.home)
+TouchesPin (FileState path life) pin = ⊥
+TouchesPin (FileSize path size) pin = ⊥

@@ -20,7 +20,7 @@ impl FileHead {
 }
 
 // Whether one of the files is the directory of a file.
-fn has_directory(file: &FileHead, earlier: &[FileRow]) -> bool
+pub fn has_directory(file: &FileHead, earlier: &[FileRow]) -> bool
     ensures { IsTrue result ↔ Any (λ directory. Holds directory file.now) (heads_of earlier.now) }
 {
     for row in earlier {
@@ -43,7 +43,7 @@ fn stand_in_earlier(rows: &[FileRow]) -> bool
     true
 }
 
-fn is_root(head: &FileHead) -> bool
+pub fn is_root(head: &FileHead) -> bool
     ensures { IsTrue result ↔ (head.now.kind ≡ Kind.Master) }
 {
     head.kind == Kind::Master
@@ -107,7 +107,7 @@ fn share_name(one: &FileHead, other: &FileHead) -> bool
     !one.name.is_empty() && one.name == other.name
 }
 
-fn is_apart(one: &FileHead, other: &FileHead) -> bool
+pub fn is_apart(one: &FileHead, other: &FileHead) -> bool
     ensures { IsTrue result ↔ AreFilesApart one.now other.now }
 {
     one.path != other.path && !share_sfi(one, other) && !share_name(one, other)

@@ -1,10 +1,8 @@
 ghost use Rattle.std.specs.Prelude.{◌≡◌};
-ghost use Rattle.file_rows.specs.FileHead.{holds_files};
+ghost use Rattle.file_rows.specs.FileHead.{holds_files, is_application};
 
+use crate::Path;
 use plain_lists::ShortList;
-
-/// The identifiers from the MF down to a file; the MF itself has none. At most four (ETSI TS 102 221).
-pub type Path = ShortList<u16, 4>;
 
 /// The name of an application (its AID, ETSI TS 101 220), of 5 to 16 bytes; other files have an empty one.
 pub type Name = ShortList<u8, 16>;
@@ -32,6 +30,13 @@ impl Kind {
         ensures { result ≡ holds_files self }
     {
         matches!(self, Kind::Master | Kind::Directory | Kind::Application)
+    }
+
+    /// Whether this is an application.
+    pub fn is_application(self) -> bool
+        ensures { result ≡ is_application self }
+    {
+        matches!(self, Kind::Application)
     }
 }
 

@@ -2,11 +2,15 @@
 #![tactic(auto)]
 
 mod change;
+mod changed;
 mod content;
 mod files;
+mod fits;
 mod form;
 mod head;
 mod laws;
+mod mode;
+mod path;
 mod pin;
 mod pins;
 mod row;
@@ -14,8 +18,10 @@ mod valid;
 
 pub use change::{Change, Piece};
 pub use content::{Content, QUOTA, copy_pins, used};
-pub use head::{FileHead, Kind, Life, Name, Path, Rule};
-pub use laws::changes_are_local;
+pub use head::{FileHead, Kind, Life, Name, Rule};
+pub use laws::{changes_are_local, changes_fit_by_kind, files_have_identifiers, one_file_has_an_sfi};
+pub use mode::Mode;
+pub use path::{CURRENT_APPLICATION_ID, MASTER_FILE_ID, Path, own_id, parent_of};
 pub use pin::{PinRow, Puk};
 pub use row::FileRow;
 pub use std::alloc::AllocError as NoMemory;

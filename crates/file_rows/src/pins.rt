@@ -49,7 +49,7 @@ fn are_puk_tries(puk: &Option<Puk>) -> bool
     }
 }
 
-fn is_pin(pin: &PinRow) -> bool
+pub fn is_pin(pin: &PinRow) -> bool
     ensures { IsTrue result ↔ IsPin pin.now }
 {
     matches!(pin.number, 1..=32)

@@ -103,3 +103,31 @@ fn a_copy_of_a_change_is_that_change(rt: HostRuntime) -> Result<(), Fail> {
     changes_are_local();
     Ok(())
 }
+
+#[test]
+fn a_path_names_its_file_and_its_directory(rt: HostRuntime) {
+    let path = Path::from_slice(&[0x7F10, 0x6F3A]);
+    assert_eq!(rt; own_id(&Path::new()), MASTER_FILE_ID);
+    assert_eq!(rt; own_id(&path), 0x6F3A);
+    assert_eq!(rt; parent_of(&Path::new()), None);
+    assert_eq!(rt; parent_of(&path), Some(Path::from_slice(&[0x7F10])));
+}
+
+#[test]
+fn the_mf_and_the_dedicated_files_hold_files(rt: HostRuntime) {
+    let kinds = [
+        (Kind::Master, true, false),
+        (Kind::Directory, true, false),
+        (Kind::Application, true, true),
+        (Kind::Transparent, false, false),
+        (Kind::Linear, false, false),
+        (Kind::Cyclic, false, false),
+    ];
+    for (kind, holds_files, is_application) in kinds {
+        assert_eq!(rt; kind.holds_files(), holds_files);
+        assert_eq!(rt; kind.is_application(), is_application);
+    }
+    let home = head(&[0x7F10], Kind::Directory, 0);
+    assert!(rt; home.holds(&head(&[0x7F10, 0x6F3A], Kind::Transparent, 1)));
+    assert!(rt; !home.holds(&head(&[0x6F3A], Kind::Transparent, 1)));
+}

@@ -1,14 +1,16 @@
-use Rattle.std.proofs.Common.{◌≡◌, ◌≢◌, ◌⊎◌, ℕ, List, ◌∷◌, [], ◌++◌, length, Contains, refl, sym, ◌∙◌, ap, subst, inl, inr, Option, Some, None, arith, ⊎_elim}
+use Rattle.std.proofs.Common.{◌≡◌, ◌≢◌, ◌⊎◌, ℕ, Bool, true, false, cond, filter, List, ◌∷◌, [], ◌++◌, length, Contains, refl, sym, ◌∙◌, ap, subst, inl, inr, Option, Some, None, arith, ⊎_elim}
 use Rattle.std.proofs.lemmas.Bool.{cases_eq}
-use Rattle.std.proofs.lemmas.List.{length-append}
+use Rattle.std.proofs.lemmas.List.{append-nil, length-append}
 use Rattle.std.proofs.lemmas.List.Elements.{Contains-append_left, Contains-get_or, Contains-push, Contains-push_cases}
 use Rattle.std.proofs.lemmas.Option.{same_Some, none-some}
 use Rattle.std.specs.Prelude.{slice_get}
-use Rattle.file_rows.specs.Path.{IsIn, master}
+use Rattle.file_rows.specs.Path.{IsIn, is_in, master}
 use Rattle.file_rows.specs.declared.row.FileRow.{FileRow}
-use Rattle.uicc_tree.specs.Arena.{AddsNode, CanStand, IsTree, children_at}
+use Rattle.uicc_tree.specs.Arena.{AddsNode, CanStand, IsTree, children_at, children_in}
 use Rattle.uicc_tree.specs.Files.{Files, IsLive, path_of}
-use Rattle.uicc_tree.proofs.FindLemmas.{contains_first}
+use Rattle.file_rows.proofs.ListLemmas.{contains_first}
+use Rattle.file_rows.proofs.PathLemmas.{is_false, is_in-is}
+use Rattle.uicc_tree.proofs.FilterLemmas.{filter-nothing, filter-push, filter-same}
 use Rattle.uicc_tree.proofs.TreeLemmas.{snoc_same}
 
 -- an empty list has no last element
@@ -76,13 +78,9 @@ module _ (old new : Files) (were are : List (List ℕ)) (node : ℕ) (row : File
       (live_cases other there))
       (live_cases one live)
 
-  inside_stays : (n child : ℕ) → IsLive old n → IsLive old child → IsIn (path_of old n) (path_of old child) → IsIn (path_of new n) (path_of new child)
-  inside_stays n child live there inside =
-      (inside.0, path_stays child there ∙ inside.1 ∙ ap (λ (p : List ℕ). p ++ inside.0 ∷ []) (sym (path_stays n live)))
-
-  inside_was : (n child : ℕ) → IsLive old n → IsLive old child → IsIn (path_of new n) (path_of new child) → IsIn (path_of old n) (path_of old child)
-  inside_was n child live there inside =
-      (inside.0, sym (path_stays child there) ∙ inside.1 ∙ ap (λ (p : List ℕ). p ++ inside.0 ∷ []) (path_stays n live))
+  inside_was : (n child : ℕ) → IsLive old n → IsLive old child → is_in (path_of old n) (path_of old child) ≡ is_in (path_of new n) (path_of new child)
+  inside_was n child live there =
+      ap (λ (p : List ℕ). is_in p (path_of old child)) (sym (path_stays n live)) ∙ ap (is_in (path_of new n)) (sym (path_stays child there))
 
   -- the added file stands in its directory
   inside_added : (n : ℕ) → IsLive old n → directory ≡ Some n → IsIn (path_of new n) (path_of new node)
@@ -93,53 +91,58 @@ module _ (old new : Files) (were are : List (List ℕ)) (node : ℕ) (row : File
       (holds.3.0, path_added ∙ holds.3.1 ∙ ap (λ (p : List ℕ). p ++ holds.3.0 ∷ []) (sym same)))
       stands.place
 
-  child_was : (n child : ℕ) → IsLive old n → Contains (children_at were n) child → IsLive new child × IsIn (path_of new n) (path_of new child)
-  child_was n child live there =
-      let it = is.child_is n child live there in
-      (live_stays child it.0, inside_stays n child live it.0 it.1)
-
-  child_is : (n child : ℕ) → IsLive new n → Contains (children_at are n) child
-      → IsLive new child × IsIn (path_of new n) (path_of new child)
-  child_is n child live there = ⊎_elim
-      (λ was. ⊎_elim
-      (λ named. ⊎_elim
-      (λ listed. child_was n child was listed)
-      (λ same. (subst (λ (c : ℕ). IsLive new c) same live_added, subst (λ (c : ℕ). IsIn (path_of new n) (path_of new c)) same (inside_added n was named)))
-      (Contains-push_cases (children_at were n) node child (subst (λ (ns : List ℕ). Contains ns child) (adds.named n was named) there)))
-      (λ apart. child_was n child was (subst (λ (ns : List ℕ). Contains ns child) (adds.others n was apart) there))
-      (some_or_not directory n))
-      (λ same. absurd (nothing (subst (λ (ns : List ℕ). Contains ns child) (ap (children_at are) (sym same) ∙ adds.alone) there)))
-      (live_cases n live)
-
-  listed_stays : (n child : ℕ) → IsLive old n → Contains (children_at were n) child → Contains (children_at are n) child
-  listed_stays n child live listed = ⊎_elim
-      (λ named. subst (λ (ns : List ℕ). Contains ns child) (sym (adds.named n live named)) (Contains-append_left (children_at were n) (node ∷ []) child listed))
-      (λ apart. subst (λ (ns : List ℕ). Contains ns child) (sym (adds.others n live apart)) listed)
-      (some_or_not directory n)
-
-  added_listed : (n : ℕ) → IsLive old n → IsIn (path_of new n) (path_of new node) → Contains (children_at are n) node
-  added_listed n live inside =
+  -- it stands in no other one
+  directory_is : (n : ℕ) → IsLive old n → IsIn (path_of new n) (path_of new node) → directory ≡ Some n
+  directory_is n live inside =
       let in_old : IsIn (path_of old n) row.head.path = (inside.0, sym path_added ∙ inside.1 ∙ ap (λ (p : List ℕ). p ++ inside.0 ∷ []) (path_stays n live)) in
       let up = above_of (path_of old n) in_old in
-      let same : up.0 ≡ n = is.distinct up.0 n up.2 live up.3 in
-      subst (λ (ns : List ℕ). Contains ns node) (sym (adds.named n live (up.1 ∙ ap (λ (k : ℕ). Some k) same))) (Contains-push (children_at were n) node)
+      up.1 ∙ ap (λ (k : ℕ). Some k) (is.distinct up.0 n up.2 live up.3)
 
-  child_known : (n child : ℕ) → IsLive new n → IsLive new child → IsIn (path_of new n) (path_of new child)
-      → Contains (children_at are n) child
-  child_known n child live there inside = ⊎_elim
+  -- nothing stands in it yet
+  nothing_in : (child : ℕ) → IsLive old child → is_in (path_of new node) (path_of new child) ≡ false
+  nothing_in child there = is_false (is_in (path_of new node) (path_of new child))
+      (λ e.
+      let inside = (is_in-is (path_of new node) (path_of new child)).0 e in
+      let path : path_of old child ≡ row.head.path ++ inside.0 ∷ [] =
+      sym (path_stays child there) ∙ inside.1 ∙ ap (λ (p : List ℕ). p ++ inside.0 ∷ []) path_added in
+      let up = is.closed child row.head.path inside.0 there path in
+      stands.new up.0 up.1 up.2)
+
+  not_in_itself_new : is_in (path_of new node) (path_of new node) ≡ false
+  not_in_itself_new = is_false (is_in (path_of new node) (path_of new node)) (λ e. not_in_itself (path_of new node) ((is_in-is (path_of new node) (path_of new node)).0 e))
+
+  abbrev in_new : ℕ → ℕ → Bool
+  in_new n child = is_in (path_of new n) (path_of new child)
+
+  -- the files in a directory of the new tree
+  split : (n : ℕ) → children_in new (path_of new n) ≡ filter (in_new n) old.nodes ++ filter (in_new n) (node ∷ [])
+  split n = ap (filter (in_new n)) adds.nodes ∙ filter-push (in_new n) old.nodes node
+
+  were_in : (n : ℕ) → IsLive old n → filter (in_new n) old.nodes ≡ children_at were n
+  were_in n live =
+      sym (is.child_list n live ∙ filter-same (λ child. is_in (path_of old n) (path_of old child)) (in_new n) old.nodes (λ child there. inside_was n child live there))
+
+  one_more : (b : Bool) (n : ℕ) → in_new n node ≡ b → filter (in_new n) (node ∷ []) ≡ cond b (node ∷ []) []
+  one_more b n e = ap (λ (b : Bool). cond b (node ∷ []) []) e
+
+  child_list : (n : ℕ) → IsLive new n → children_at are n ≡ children_in new (path_of new n)
+  child_list n live = ⊎_elim
       (λ was. ⊎_elim
-      (λ too. listed_stays n child was (is.child_known n child was too (inside_was n child was too inside)))
-      (λ same. subst (λ (c : ℕ). Contains (children_at are n) c) same
-      (added_listed n was (subst (λ (c : ℕ). IsIn (path_of new n) (path_of new c)) (sym same) inside)))
-      (live_cases child there))
-      (λ same. ⊎_elim
-      (λ too.
-      let e : path_of old child ≡ row.head.path ++ inside.0 ∷ [] =
-      sym (path_stays child too) ∙ inside.1 ∙ ap (λ (p : List ℕ). p ++ inside.0 ∷ []) (ap (path_of new) (sym same) ∙ path_added) in
-      let up = is.closed child row.head.path inside.0 too e in
-      absurd (stands.new up.0 up.1 up.2))
-      (λ again. absurd (not_in_itself (path_of new n) (subst (λ (c : ℕ). IsIn (path_of new n) (path_of new c)) (sym again ∙ same) inside)))
-      (live_cases child there))
+      (λ named.
+      let inside : in_new n node ≡ true = (is_in-is (path_of new n) (path_of new node)).1 (inside_added n was named) in
+      adds.named n was named
+      ∙ sym (split n ∙ ap (λ (ns : List ℕ). ns ++ filter (in_new n) (node ∷ [])) (were_in n was) ∙ ap (λ (ns : List ℕ). children_at were n ++ ns) (one_more true n inside)))
+      (λ apart.
+      let outside : in_new n node ≡ false =
+      is_false (in_new n node) (λ e. apart (directory_is n was ((is_in-is (path_of new n) (path_of new node)).0 e))) in
+      adds.others n was apart
+      ∙ sym (split n ∙ ap (λ (ns : List ℕ). ns ++ filter (in_new n) (node ∷ [])) (were_in n was) ∙ ap (λ (ns : List ℕ). children_at were n ++ ns) (one_more false n outside)
+      ∙ append-nil (children_at were n)))
+      (some_or_not directory n))
+      (λ same.
+      let none : children_in new (path_of new node) ≡ [] =
+      split node ∙ ap (λ (ns : List ℕ). ns ++ filter (in_new node) (node ∷ [])) (filter-nothing (in_new node) old.nodes nothing_in) ∙ one_more false node not_in_itself_new in
+      ap (children_at are) (sym same) ∙ adds.alone ∙ sym none ∙ ap (λ (k : ℕ). children_in new (path_of new k)) same)
       (live_cases n live)
 
   first_is : (ns : List ℕ) → old.nodes ≡ ns → (n : ℕ) → slice_get (ns ++ node ∷ []) 0 ≡ Some n → path_of new n ≡ master
@@ -162,6 +165,5 @@ module _ (old new : Files) (were are : List (List ℕ)) (node : ℕ) (row : File
     root = root;
     closed = closed;
     distinct = distinct;
-    child_is = child_is;
-    child_known = child_known;
+    child_list = child_list;
   }

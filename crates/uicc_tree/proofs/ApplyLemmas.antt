@@ -63,7 +63,7 @@ some_and None P Q said more = said
 some_and (Some x) P Q said more = (said, more x refl)
 
 -- the files after a change don't depend on the PINs
-rows_alike : (rows : List FileRow) (pins : List PinRow) (change : Change) → (changed (record { rows = rows; pins = pins }) change).rows ≡ rows_after rows change
+pub rows_alike : (rows : List FileRow) (pins : List PinRow) (change : Change) → (changed (record { rows = rows; pins = pins }) change).rows ≡ rows_after rows change
 rows_alike rows pins (WriteRange path offset bytes) = refl
 rows_alike rows pins (WriteRecord path number bytes) = refl
 rows_alike rows pins (PinSet set) = refl

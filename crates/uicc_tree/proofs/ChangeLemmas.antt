@@ -4,14 +4,15 @@ use Rattle.std.proofs.lemmas.List.{get_or-set_other, get_or-set_same, length-map
 use Rattle.std.proofs.lemmas.Slice.Eq.{bytes_eq-Decides}
 use Rattle.std.specs.Prelude.{IsSomeAnd}
 use Rattle.file_rows.specs.Change.{with_file}
-use Rattle.file_rows.specs.Path.{IsIn, same_path}
+use Rattle.file_rows.specs.Path.{is_in, same_path}
 use Rattle.file_rows.specs.declared.row.FileRow.{FileRow}
+use Rattle.file_rows.proofs.ListLemmas.{contains_first, contains_later}
 use Rattle.file_rows.proofs.ChangeLemmas.{same_path-other}
 use Rattle.uicc_tree.specs.Arena.{ChangesCell, IsArena, cell_of, IsTree, children_of, files_of, mark_at, with_cell}
 use Rattle.uicc_tree.specs.Change.{Changes}
 use Rattle.uicc_tree.specs.Files.{Files, IsLive, file_of, no_file, path_of, rows_of}
 use Rattle.uicc_tree.specs.declared.arena.Arena.{Arena}
-use Rattle.uicc_tree.proofs.FindLemmas.{contains_first, contains_later}
+use Rattle.uicc_tree.proofs.FilterLemmas.{filter-same}
 use Rattle.uicc_tree.proofs.TreeLemmas.{in_slots}
 
 -- what is said of the file that is there
@@ -62,14 +63,6 @@ module _ (old new : Arena) (node : ℕ) (path : List ℕ) (change : FileRow → 
       elsewhere n apart ∙ ap (λ (b : Bool). cond b (change (file_of (files_of old) n)) (file_of (files_of old) n)) (sym test))
       (cases_eq n node)
 
-  inside_same : (n child : ℕ) → IsIn (path_of (files_of old) n) (path_of (files_of old) child) → IsIn (path_of tree n) (path_of tree child)
-  inside_same n child inside =
-      (inside.0, path_same child ∙ inside.1 ∙ ap (λ (p : List ℕ). p ++ inside.0 ∷ []) (sym (path_same n)))
-
-  inside_was : (n child : ℕ) → IsIn (path_of tree n) (path_of tree child) → IsIn (path_of (files_of old) n) (path_of (files_of old) child)
-  inside_was n child inside =
-      (inside.0, sym (path_same child) ∙ inside.1 ∙ ap (λ (p : List ℕ). p ++ inside.0 ∷ []) (path_same n))
-
   tree_is : IsTree tree (children_of old)
   tree_is = record {
     in_range = λ k d within. let low = arena.tree.in_range k d within in
@@ -78,8 +71,10 @@ module _ (old new : Arena) (node : ℕ) (path : List ℕ) (change : FileRow → 
     closed = λ n directory id there e.
         let up = arena.tree.closed n directory id there (sym (path_same n) ∙ e) in (up.0, up.1, path_same up.0 ∙ up.2);
     distinct = λ one other there too e. arena.tree.distinct one other there too (sym (path_same one) ∙ e ∙ path_same other);
-    child_is = λ n child there listed. let it = arena.tree.child_is n child there listed in (it.0, inside_same n child it.1);
-    child_known = λ n child there too inside. arena.tree.child_known n child there too (inside_was n child inside);
+    child_list = λ n there.
+        arena.tree.child_list n there
+        ∙ filter-same (λ child. is_in (path_of (files_of old) n) (path_of (files_of old) child)) (λ child. is_in (path_of tree n) (path_of tree child)) (files_of old).nodes
+            (λ child too. ap (λ (p : List ℕ). is_in p (path_of (files_of old) child)) (sym (path_same n)) ∙ ap (is_in (path_of tree n)) (sym (path_same child)));
   }
 
   pub nodes_same : (files_of new).nodes ≡ (files_of old).nodes

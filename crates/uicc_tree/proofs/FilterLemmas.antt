@@ -1,7 +1,7 @@
-use Rattle.std.proofs.Common.{◌≡◌, Bool, true, false, cond, List, ◌∷◌, [], map, filter, Contains, refl, sym, ◌∙◌, ap, subst, ⊎_elim, arith}
+use Rattle.std.proofs.Common.{◌≡◌, Bool, true, false, cond, ◌&&◌, List, ◌∷◌, [], ◌++◌, map, filter, Contains, refl, sym, ◌∙◌, ap, subst, ⊎_elim, arith}
 use Rattle.std.proofs.lemmas.Bool.{true≢false}
 use Rattle.std.specs.List.Retain.{RetainsInTurn}
-use Rattle.uicc_tree.proofs.FindLemmas.{contains_cases, contains_first, contains_later}
+use Rattle.file_rows.proofs.ListLemmas.{contains_first, contains_later}
 
 -- what a test that changes nothing keeps
 pub filter_from_turns : {X S : Type 0} (R : S → X → Bool → S → X → Type 0) (test : X → Bool) (s : S)
@@ -18,37 +18,42 @@ filter_from_turns {X} {S} R test s says (x ∷ xs) ys turns =
     ∙ ap (λ (zs : List X). cond (test x) (x ∷ zs) zs) rest
 
 module _ {X : Type 0} where
-  -- what a filter keeps
-  pub contains-filter : (test : X → Bool) (xs : List X) (x : X) → Contains (filter test xs) x → Contains xs x × (test x ≡ true)
-  contains-filter test [] x there = absurd (omega (arith, there.1))
-  contains-filter test (y ∷ ys) x there =
-      let kept : Bool → List X = λ b. cond b (y ∷ filter test ys) (filter test ys) in
-      let step : (b : Bool) → test y ≡ b → Contains (kept b) x → Contains (y ∷ ys) x × (test x ≡ true)
-      = λ b. elim b as (λ b. test y ≡ b → Contains (kept b) x → Contains (y ∷ ys) x × (test x ≡ true)) [
-        | true ↦ λ e c. ⊎_elim
-            (λ same. (subst (λ (z : X). Contains (y ∷ ys) z) same (contains_first y ys), ap test (sym same) ∙ e))
-            (λ later. let rest = contains-filter test ys x later in (contains_later y ys x rest.0, rest.1))
-            (contains_cases y (filter test ys) x c)
-        | false ↦ λ e c. let rest = contains-filter test ys x c in (contains_later y ys x rest.0, rest.1)
-      ]
-      in step (test y) refl there
+  -- two tests that agree on the elements
+  pub filter-same : (one other : X → Bool) (xs : List X) → ((x : X) → Contains xs x → one x ≡ other x) → filter one xs ≡ filter other xs
+  filter-same one other [] same = refl
+  filter-same one other (x ∷ xs) same =
+      let rest : filter one xs ≡ filter other xs = filter-same one other xs (λ y there. same y (contains_later x xs y there)) in
+      ap (λ (b : Bool). cond b (x ∷ filter one xs) (filter one xs)) (same x (contains_first x xs)) ∙ ap (λ (ys : List X). cond (other x) (x ∷ ys) ys) rest
 
-  pub filter-contains : (test : X → Bool) (xs : List X) (x : X) → Contains xs x → test x ≡ true → Contains (filter test xs) x
-  filter-contains test [] x there passes = there
-  filter-contains test (y ∷ ys) x there passes =
-      let kept : Bool → List X = λ b. cond b (y ∷ filter test ys) (filter test ys) in
-      let step : (b : Bool) → test y ≡ b → Contains (kept b) x
-      = λ b. elim b as (λ b. test y ≡ b → Contains (kept b) x) [
-        | true ↦ λ e. ⊎_elim
-            (λ same. subst (λ (z : X). Contains (y ∷ filter test ys) z) same (contains_first y (filter test ys)))
-            (λ later. contains_later y (filter test ys) x (filter-contains test ys x later passes))
-            (contains_cases y ys x there)
-        | false ↦ λ e. ⊎_elim
-            (λ same. absurd (true≢false (sym passes ∙ ap test (sym same) ∙ e)))
-            (λ later. filter-contains test ys x later passes)
-            (contains_cases y ys x there)
+  pub filter-push : (test : X → Bool) (xs : List X) (x : X) → filter test (xs ++ x ∷ []) ≡ filter test xs ++ filter test (x ∷ [])
+  filter-push test [] x = refl
+  filter-push test (y ∷ xs) x =
+      let rest = filter-push test xs x in
+      let step : (b : Bool) → cond b (y ∷ filter test (xs ++ x ∷ [])) (filter test (xs ++ x ∷ [])) ≡ cond b (y ∷ filter test xs) (filter test xs) ++ filter test (x ∷ [])
+      = λ b. elim b as (λ b. cond b (y ∷ filter test (xs ++ x ∷ [])) (filter test (xs ++ x ∷ [])) ≡ cond b (y ∷ filter test xs) (filter test xs) ++ filter test (x ∷ [])) [
+        | true ↦ ap (λ (ys : List X). y ∷ ys) rest
+        | false ↦ rest
       ]
-      in step (test y) refl
+      in step (test y)
+
+  -- a filter that no element passes
+  pub filter-nothing : (test : X → Bool) (xs : List X) → ((x : X) → Contains xs x → test x ≡ false) → filter test xs ≡ []
+  filter-nothing test [] fails = refl
+  filter-nothing test (x ∷ xs) fails = rw (fails x (contains_first x xs)) (filter-nothing test xs (λ y there. fails y (contains_later x xs y there)))
+
+  filter-and : (p q : X → Bool) (x : X) (xs : List X) → cond (q x && p x) (x ∷ filter p (filter q xs)) (filter p (filter q xs)) ≡ filter p (filter q (x ∷ xs))
+  filter-and p q x xs =
+      let step : (b : Bool) → cond (b && p x) (x ∷ filter p (filter q xs)) (filter p (filter q xs)) ≡ filter p (cond b (x ∷ filter q xs) (filter q xs))
+      = λ b. elim b as (λ b. cond (b && p x) (x ∷ filter p (filter q xs)) (filter p (filter q xs)) ≡ filter p (cond b (x ∷ filter q xs) (filter q xs))) [ true ↦ refl | false ↦ refl ]
+      in step (q x)
+
+  -- two filters in either order
+  pub filter-twice : (p q r s : X → Bool) (xs : List X) → ((x : X) → Contains xs x → (q x && p x) ≡ (s x && r x)) → filter p (filter q xs) ≡ filter r (filter s xs)
+  filter-twice p q r s [] same = refl
+  filter-twice p q r s (x ∷ xs) same =
+      let rest : filter p (filter q xs) ≡ filter r (filter s xs) = filter-twice p q r s xs (λ y there. same y (contains_later x xs y there)) in
+      sym (filter-and p q x xs) ∙ ap (λ (b : Bool). cond b (x ∷ filter p (filter q xs)) (filter p (filter q xs))) (same x (contains_first x xs))
+      ∙ ap (λ (ys : List X). cond (s x && r x) (x ∷ ys) ys) rest ∙ filter-and r s x xs
 
 module _ {X Y : Type 0} where
   -- a filter of what f sees

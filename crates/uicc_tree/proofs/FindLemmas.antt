@@ -1,22 +1,8 @@
-use Rattle.std.proofs.Common.{◌≡◌, ◌⊎◌, ℕ, zero, suc, ◌+◌, ◌<◌, Bool, true, false, cond, List, ◌∷◌, [], ◌++◌, map, length, take, drop, Contains, get_or, refl, sym, ◌∙◌, ap, inl, inr, Some, None, find, arith, ⊎_elim}
+use Rattle.std.proofs.Common.{◌≡◌, ◌⊎◌, ℕ, zero, suc, ◌+◌, ◌<◌, Bool, true, false, cond, List, ◌∷◌, [], ◌++◌, map, filter, length, take, drop, Contains, get_or, refl, sym, ◌∙◌, ap, inl, inr, Some, None, find, arith, ⊎_elim}
 use Rattle.std.proofs.lemmas.Bool.{true≢false}
 use Rattle.std.proofs.lemmas.List.{drop_more, map-append, take_more, take-append-drop}
 use Rattle.std.proofs.lemmas.List.Folds.{find-append}
-
-module _ {X : Type 0} where
-  contains_at : (y : X) (ys : List X) (x : X) (k : ℕ) → k < length (y ∷ ys) → get_or (y ∷ ys) k x ≡ x → (y ≡ x) ⊎ Contains ys x
-  contains_at y ys x zero within e = inl e
-  contains_at y ys x (suc k) within e = inr (k, omega arith, e)
-
-  -- an element is the first one or a later one
-  pub contains_cases : (y : X) (ys : List X) (x : X) → Contains (y ∷ ys) x → (y ≡ x) ⊎ Contains ys x
-  contains_cases y ys x there = contains_at y ys x there.0 there.1 there.2
-
-  pub contains_later : (y : X) (ys : List X) (x : X) → Contains ys x → Contains (y ∷ ys) x
-  contains_later y ys x there = (suc there.0, omega (arith, there.1), there.2)
-
-  pub contains_first : (y : X) (ys : List X) → Contains (y ∷ ys) y
-  contains_first y ys = (zero, omega arith, refl)
+use Rattle.file_rows.proofs.ListLemmas.{contains_cases, contains_first, contains_later}
 
 module _ {X Y : Type 0} where
   -- a search finds what alone passes
@@ -38,7 +24,7 @@ module _ {X Y : Type 0} where
   find_none f test (y ∷ ys) fails = rw (fails y (contains_first y ys)) (find_none f test ys (λ z c. fails z (contains_later y ys z c)))
 
 module _ {Y : Type 0} where
-  -- a search passes over what fails in front
+  -- a search passes over what fails so far
   pub find_more : (f : ℕ → Y) (test : Y → Bool) (xs : List ℕ) (i : ℕ) → i < length xs → find test (map f (take i xs)) ≡ None
       → test (f (get_or xs i 0)) ≡ false → find test (map f (take (i + 1) xs)) ≡ None
   find_more f test xs i within none fails =
@@ -51,3 +37,20 @@ module _ {Y : Type 0} where
       let split : xs ≡ take i xs ++ get_or xs i 0 ∷ drop (i + 1) xs =
       sym (take-append-drop i xs) ∙ ap (λ rest. take i xs ++ rest) (drop_more xs i 0 within) in
       ap (λ ys. find test (map f ys)) split ∙ rw (map-append, find-append, none, passes) refl
+
+module _ {X Y : Type 0} where
+  -- a search among what a filter keeps, where all that passes is kept
+  pub find-filter : (f : X → Y) (test : Y → Bool) (keep : X → Bool) (xs : List X) → ((x : X) → Contains xs x → test (f x) ≡ true → keep x ≡ true)
+      → find test (map f (filter keep xs)) ≡ find test (map f xs)
+  find-filter f test keep [] kept = refl
+  find-filter f test keep (x ∷ xs) kept =
+      let rest = find-filter f test keep xs (λ y there. kept y (contains_later x xs y there)) in
+      let step : (b c : Bool) → keep x ≡ b → test (f x) ≡ c → find test (map f (cond b (x ∷ filter keep xs) (filter keep xs))) ≡ cond c (Some (f x)) (find test (map f xs))
+      = λ b. elim b as (λ b. (c : Bool) → keep x ≡ b → test (f x) ≡ c → find test (map f (cond b (x ∷ filter keep xs) (filter keep xs))) ≡ cond c (Some (f x)) (find test (map f xs))) [
+        | true ↦ λ c on e. ap (λ (b : Bool). cond b (Some (f x)) (find test (map f (filter keep xs)))) e ∙ ap (cond c (Some (f x))) rest
+        | false ↦ λ c. elim c as (λ c. keep x ≡ false → test (f x) ≡ c → find test (map f (filter keep xs)) ≡ cond c (Some (f x)) (find test (map f xs))) [
+            | true ↦ λ off e. absurd (true≢false (sym (kept x (contains_first x xs) e) ∙ off))
+            | false ↦ λ off e. rest
+          ]
+      ]
+      in step (keep x) (test (f x)) refl refl

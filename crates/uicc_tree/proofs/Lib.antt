@@ -7,7 +7,8 @@ pub mod FindLemmas
 pub mod MakeLemmas
 pub mod PlaceLemmas
 pub mod RemoveLemmas
-pub mod SampleLemmas
 pub mod SlotLemmas
 pub mod TreeLemmas
-pub mod PlainLemmas
+pub mod GivesLemmas
+pub mod TestLemmas
+pub mod NameLemmas

@@ -1,4 +1,4 @@
-use Rattle.std.proofs.Common.{◌≡◌, ◌≢◌, ◌⊎◌, ℕ, ◌<◌, Bool, true, false, not, cond, ◌==◌, List, ◌∷◌, [], ◌++◌, map, filter, length, drop, Contains, get_or, refl, sym, ◌∙◌, ap, subst, Some, inl, inr, arith, ⊎_elim}
+use Rattle.std.proofs.Common.{◌≡◌, ◌≢◌, ◌⊎◌, ℕ, ◌<◌, Bool, true, false, not, cond, ◌==◌, ◌&&◌, List, ◌∷◌, [], ◌++◌, map, filter, length, drop, Contains, get_or, refl, sym, ◌∙◌, ap, subst, Some, inl, inr, arith, ⊎_elim}
 use Rattle.std.specs.Prelude.{slice_get}
 use Rattle.std.proofs.lemmas.Bool.{true≢false}
 use Rattle.std.proofs.lemmas.Bool.Decides.{Decides-eqb}
@@ -6,29 +6,17 @@ use Rattle.std.proofs.lemmas.List.{append-nil, append_assoc, length-append, leng
 use Rattle.std.proofs.lemmas.List.Elements.{Contains-get_or}
 use Rattle.std.proofs.lemmas.Option.{none-some, same_Some}
 use Rattle.std.proofs.lemmas.Slice.Eq.{starts_is}
-use Rattle.file_rows.specs.Path.{IsIn, master, stands_below}
+use Rattle.file_rows.specs.Path.{IsIn, is_in, master, stands_below}
 use Rattle.file_rows.specs.declared.row.FileRow.{FileRow}
-use Rattle.uicc_tree.specs.Arena.{ArePruned, IsArena, IsPruned, cell_of, children_at, children_of, files_of, mark_at, marks_of}
+use Rattle.uicc_tree.specs.Arena.{ArePruned, IsArena, IsPruned, cell_of, children_at, children_in, children_of, files_of, mark_at, marks_of}
 use Rattle.uicc_tree.specs.Files.{IsLive, file_of, no_file, path_of, rows_of}
 use Rattle.uicc_tree.specs.declared.arena.Arena.{Arena}
 use Rattle.uicc_tree.specs.declared.arena.Slot.{Slot}
-use Rattle.uicc_tree.proofs.FilterLemmas.{contains-filter, filter-contains, map-filter}
-use Rattle.uicc_tree.proofs.FindLemmas.{contains_first}
+use Rattle.file_rows.proofs.ListLemmas.{contains-filter, contains_first, filter-contains}
+use Rattle.file_rows.proofs.PathLemmas.{below_is, below_more, both_hold, is_below, is_false, is_in-is}
+use Rattle.uicc_tree.proofs.FilterLemmas.{filter-twice, map-filter}
 use Rattle.uicc_tree.proofs.SlotLemmas.{map_get_some, some_within}
 use Rattle.uicc_tree.proofs.TreeLemmas.{in_slots}
-
--- a path below another begins with it
-below_is : (top path : List ℕ) → stands_below top path ≡ true → path ≡ top ++ drop (length top) path
-below_is top path below = (starts_is Decides-eqb path top (stands_below top path) refl).0 below
-
-is_below : (top path rest : List ℕ) → path ≡ top ++ rest → stands_below top path ≡ true
-is_below top path rest e = (starts_is Decides-eqb path top (stands_below top path) refl).1 rest e
-
--- what stands in a file below the top one does too
-below_more : (top path more : List ℕ) → stands_below top path ≡ true → stands_below top (path ++ more) ≡ true
-below_more top path more below =
-    is_below top (path ++ more) (drop (length top) path ++ more)
-    (ap (λ (p : List ℕ). p ++ more) (below_is top path below) ∙ append_assoc top (drop (length top) path) more)
 
 empty : (p : List ℕ) → length p ≡ 0 → p ≡ []
 empty [] e = refl
@@ -60,12 +48,16 @@ from_not : (b : Bool) → not b ≡ true → b ≡ false
 from_not true e = absurd (true≢false (sym e))
 from_not false e = refl
 
+and_true : (b : Bool) → (b && true) ≡ b
+and_true true = refl
+and_true false = refl
+
 true_or_false : (b : Bool) → (b ≡ true) ⊎ (b ≡ false)
 true_or_false true = inl refl
 true_or_false false = inr refl
 
 module _ (old new : Arena) (gone : ℕ) (top : List ℕ) (arena : IsArena old)
-    (there : IsLive (files_of old) gone) (at_top : path_of (files_of old) gone ≡ top)
+    (at : IsLive (files_of old) gone) (at_top : path_of (files_of old) gone ≡ top)
     (pruned : ArePruned top gone old.slots.items new.slots.items (length old.slots.items))
     (order : new.order.items ≡ filter (mark_at (marks_of new)) old.order.items)
     (few : length new.slots.items ≡ length old.slots.items) where
@@ -149,36 +141,43 @@ module _ (old new : Arena) (gone : ℕ) (top : List ℕ) (arena : IsArena old)
       (λ differ. ap not differ)
       (true_or_false (n == gone))
 
-  inside_new : (n child : ℕ) → IsLive (files_of new) n → IsLive (files_of new) child → IsIn (path_of (files_of old) n) (path_of (files_of old) child)
-      → IsIn (path_of (files_of new) n) (path_of (files_of new) child)
-  inside_new n child live too inside =
-      (inside.0, path_new child too ∙ inside.1 ∙ ap (λ (p : List ℕ). p ++ inside.0 ∷ []) (sym (path_new n live)))
+  abbrev in_old : ℕ → ℕ → Bool
+  in_old n child = is_in (path_of (files_of old) n) (path_of (files_of old) child)
 
-  child_stays : (n child : ℕ) → IsLive (files_of new) n → Contains (children_at (children_of new) n) child
-      → IsLive (files_of new) child × IsIn (path_of (files_of new) n) (path_of (files_of new) child)
-  child_stays n child live listed =
-      let stay = stays n live in
-      let was = contains-filter (λ c. not (c == gone)) (children_at (children_of old) n) child
-      (subst (λ (cs : List ℕ). Contains cs child) (children_new n stay.0 stay.1) listed) in
-      let it = arena.tree.child_is n child stay.0 was.0 in
-      let apart : child ≢ gone = λ e. true≢false (sym ((Decides-eqb child gone).1 e) ∙ from_not (child == gone) was.1) in
-      let beside : below child ≡ false = ⊎_elim
-      (λ inside. absurd (apart (arena.tree.distinct child gone it.0 there
-      (it.1.1 ∙ only_top top (path_of (files_of old) n) it.1.0 (ap (stands_below top) (sym it.1.1) ∙ inside) stay.1 ∙ sym at_top))))
-      (λ out. out)
-      (true_or_false (below child)) in
-      let too : IsLive (files_of new) child = kept child it.0 beside in
-      (too, inside_new n child live too it.1)
+  -- a file that goes from a directory that stays is the one that is taken away
+  goes : (n child : ℕ) → IsLive (files_of old) child → below n ≡ false → below child ≡ true → in_old n child ≡ true → child ≡ gone
+  goes n child there beside inside e =
+      let holds = (is_in-is (path_of (files_of old) n) (path_of (files_of old) child)).0 e in
+      arena.tree.distinct child gone there at
+      (holds.1 ∙ only_top top (path_of (files_of old) n) holds.0 (ap (stands_below top) (sym holds.1) ∙ inside) beside ∙ sym at_top)
 
-  child_listed : (n child : ℕ) → IsLive (files_of new) n → IsLive (files_of new) child → IsIn (path_of (files_of new) n) (path_of (files_of new) child)
-      → Contains (children_at (children_of new) n) child
-  child_listed n child live too inside =
+  left_out : (n child : ℕ) → IsLive (files_of new) n → IsLive (files_of old) child
+      → (in_old n child && not (child == gone)) ≡ (mark_at (marks_of new) child && is_in (path_of (files_of new) n) (path_of (files_of new) child))
+  left_out n child live there = ⊎_elim
+      (λ inside.
+      let unmarked : mark_at (marks_of new) child ≡ false = mark_new child there ∙ ap not inside in
+      let out : (in_old n child && not (child == gone)) ≡ false = is_false (in_old n child && not (child == gone))
+      (λ e.
+      let both = both_hold (in_old n child) (not (child == gone)) e in
+      true≢false (sym ((Decides-eqb child gone).1 (goes n child there (stays n live).1 inside both.0)) ∙ from_not (child == gone) both.1)) in
+      out ∙ ap (λ (b : Bool). b && is_in (path_of (files_of new) n) (path_of (files_of new) child)) (sym unmarked))
+      (λ beside.
+      let too : IsLive (files_of new) child = kept child there beside in
+      let marked : mark_at (marks_of new) child ≡ true = mark_new child there ∙ ap not beside in
+      let same : in_old n child ≡ is_in (path_of (files_of new) n) (path_of (files_of new) child) =
+      ap (λ (p : List ℕ). is_in p (path_of (files_of old) child)) (sym (path_new n live)) ∙ ap (is_in (path_of (files_of new) n)) (sym (path_new child too)) in
+      ap (λ (b : Bool). in_old n child && b) (apart_test child (not_gone child beside)) ∙ and_true (in_old n child) ∙ same
+      ∙ ap (λ (b : Bool). b && is_in (path_of (files_of new) n) (path_of (files_of new) child)) (sym marked))
+      (true_or_false (below child))
+
+  child_list : (n : ℕ) → IsLive (files_of new) n → children_at (children_of new) n ≡ children_in (files_of new) (path_of (files_of new) n)
+  child_list n live =
       let stay = stays n live in
-      let other = stays child too in
-      let was : IsIn (path_of (files_of old) n) (path_of (files_of old) child) =
-      (inside.0, sym (path_new child too) ∙ inside.1 ∙ ap (λ (p : List ℕ). p ++ inside.0 ∷ []) (path_new n live)) in
-      subst (λ (cs : List ℕ). Contains cs child) (sym (children_new n stay.0 stay.1))
-      (filter-contains (λ c. not (c == gone)) (children_at (children_of old) n) child (arena.tree.child_known n child stay.0 other.0 was) (apart_test child (not_gone child other.1)))
+      children_new n stay.0 stay.1
+      ∙ ap (filter (λ child. not (child == gone))) (arena.tree.child_list n stay.0)
+      ∙ filter-twice (λ child. not (child == gone)) (in_old n) (λ child. is_in (path_of (files_of new) n) (path_of (files_of new) child)) (mark_at (marks_of new)) old.order.items
+      (λ child there. left_out n child live there)
+      ∙ ap (filter (λ child. is_in (path_of (files_of new) n) (path_of (files_of new) child))) (sym order)
 
   closed_new : (n : ℕ) (directory : List ℕ) (id : ℕ) → IsLive (files_of new) n → path_of (files_of new) n ≡ directory ++ id ∷ []
       → (above : ℕ) × IsLive (files_of new) above × (path_of (files_of new) above ≡ directory)
@@ -233,8 +232,7 @@ module _ (old new : Arena) (gone : ℕ) (top : List ℕ) (arena : IsArena old)
           path_new n live ∙ first_kept old.order.items refl n (ap (λ (ns : List ℕ). slice_get ns 0) (sym order) ∙ first) live;
       closed = closed_new;
       distinct = distinct_new;
-      child_is = child_stays;
-      child_known = child_listed;
+      child_list = child_list;
     };
     marked = λ n live. mark_new n (stays n live).0 ∙ ap not (stays n live).1;
     few = omega (arith, arena.few, few);

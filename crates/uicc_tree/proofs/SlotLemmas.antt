@@ -2,7 +2,7 @@ use Rattle.std.proofs.Common.{◌≡◌, ◌≢◌, ℕ, zero, suc, ◌<◌, Lis
 use Rattle.std.specs.Prelude.{slice_get, unwrap_or}
 use Rattle.std.specs.Option.{option_map}
 use Rattle.std.proofs.lemmas.Option.{get_or_from_slice_get, slice_get-map, slice_get_within, unwrap_or-slice_get}
-use Rattle.uicc_tree.proofs.FindLemmas.{contains_first, contains_later}
+use Rattle.file_rows.proofs.ListLemmas.{contains_first, contains_later}
 use Rattle.std.proofs.lemmas.List.{get_or-set_same, length-map, map-set}
 
 module _ {X Y : Type 0} where

@@ -1,10 +1,12 @@
-use Rattle.std.proofs.Common.{◌≡◌, ℕ, zero, suc, ◌+◌, ◌-◌, ◌<◌, List, ◌∷◌, [], ◌++◌, map, length, Contains, get_or, take, Bool, None, refl, sym, ◌∙◌, ap, arith}
+use Rattle.std.proofs.Common.{◌≡◌, ℕ, zero, suc, ◌+◌, ◌-◌, ◌<◌, List, ◌∷◌, [], ◌++◌, map, length, Contains, get_or, take, Bool, None, refl, sym, ◌∙◌, ap, subst, arith}
 use Rattle.std.proofs.lemmas.List.{length-map, length-take-le, get_or_default, take_all, take_more, take-take}
 use Rattle.std.proofs.lemmas.List.Elements.{All-contains, Contains-get_or}
 use Rattle.std.proofs.lemmas.Slice.Eq.{bytes_eq-Decides}
 use Rattle.file_rows.specs.Content.{file_at}
-use Rattle.file_rows.specs.Path.{IsIn, same_path}
+use Rattle.file_rows.specs.Path.{IsIn, is_in, same_path}
 use Rattle.file_rows.specs.declared.row.FileRow.{FileRow}
+use Rattle.file_rows.proofs.ListLemmas.{contains-filter, filter-contains}
+use Rattle.file_rows.proofs.PathLemmas.{is_in-is}
 use Rattle.file_rows.proofs.ChangeLemmas.{same_path-other}
 use Rattle.uicc_tree.proofs.FindLemmas.{find_only, find_none}
 use Rattle.uicc_tree.specs.Arena.{cell_of, files_of, children_of, children_at, IsArena, IsTree}
@@ -17,12 +19,24 @@ in_slots arena tree node live =
     let within : node < length (map cell_of arena.slots.items) = All-contains (λ n. n < length (map cell_of arena.slots.items)) arena.order.items node tree.tree.in_range live in
     omega (arith, within, length-map arena.slots.items cell_of)
 
--- a listed child is a file in that of the node
+-- a listed child is a file in that of the node, and each such file is listed
+module _ (tree : Files) (children : List (List ℕ)) (is : IsTree tree children) (node child : ℕ) (live : IsLive tree node) where
+  pub child_is : Contains (children_at children node) child → IsLive tree child × IsIn (path_of tree node) (path_of tree child)
+  child_is listed =
+      let kept = contains-filter (λ n. is_in (path_of tree node) (path_of tree n)) tree.nodes child (subst (λ (ns : List ℕ). Contains ns child) (is.child_list node live) listed) in
+      (kept.0, (is_in-is (path_of tree node) (path_of tree child)).0 kept.1)
+
+  pub child_known : IsLive tree child → IsIn (path_of tree node) (path_of tree child) → Contains (children_at children node) child
+  child_known there inside =
+      subst (λ (ns : List ℕ). Contains ns child) (sym (is.child_list node live))
+      (filter-contains (λ n. is_in (path_of tree node) (path_of tree n)) tree.nodes child there ((is_in-is (path_of tree node) (path_of tree child)).1 inside))
+
+-- a listed child at a place
 pub child_at : (arena : Arena) → IsArena arena → (node : ℕ) → IsLive (files_of arena) node → (items : List ℕ) → items ≡ children_at (children_of arena) node
     → (k : ℕ) → k < length items → IsLive (files_of arena) (get_or items k 0) × IsIn (path_of (files_of arena) node) (path_of (files_of arena) (get_or items k 0))
 child_at arena tree node live items is k within =
     let listed : Contains (children_at (children_of arena) node) (get_or items k 0) = rw (← is) (Contains-get_or items k 0 within) in
-    tree.tree.child_is node (get_or items k 0) live listed
+    child_is (files_of arena) (children_of arena) tree.tree node (get_or items k 0) live listed
 
 -- lists with an element behind are equal where both parts are
 pub snoc_same : (p q : List ℕ) (x y : ℕ) → p ++ x ∷ [] ≡ q ++ y ∷ [] → (p ≡ q) × (x ≡ y)
@@ -49,7 +63,7 @@ pub child_place : (arena : Arena) → IsArena arena → (node : ℕ) → IsLive 
     → (child : ℕ) → IsLive (files_of arena) child → IsIn (path_of (files_of arena) node) (path_of (files_of arena) child)
     → (k : ℕ) × (k < length items) × (get_or items k 0 ≡ child)
 child_place arena tree node live items is child there inside =
-    let listed : Contains items child = rw is (tree.tree.child_known node child live there inside) in
+    let listed : Contains items child = rw is (child_known (files_of arena) (children_of arena) tree.tree node child live there inside) in
     (listed.0, listed.1, get_or_default items listed.0 0 child listed.1 ∙ listed.2)
 
 -- a list is its front and its last element

@@ -1,5 +1,5 @@
 use Rattle.std.specs.Prelude.{ℕ, Bool, true, false, not, ◌==◌, filter, nat_lt, ◌+◌, ◌≡◌, ◌≢◌, ◌⊎◌, ◌<◌, ◌^◌, List, ◌∷◌, [], ◌++◌, map, length, vec_capacity, IsTrue, All, Contains, slice_index_or, slice_get, slice_set, Option, Some, None}
-use Rattle.file_rows.specs.Path.{IsIn, master, stands_below}
+use Rattle.file_rows.specs.Path.{IsIn, is_in, master, stands_below}
 use Rattle.file_rows.specs.declared.row.FileRow.{FileRow}
 use Rattle.uicc_tree.specs.Files.{Files, IsLive, file_of, path_of}
 use Rattle.uicc_tree.specs.declared.room.Room.TheVariants.{Nothing}
@@ -20,6 +20,10 @@ children_of arena = map (λ slot. slot.children.items) arena.slots.items
 abbrev pub children_at : List (List ℕ) → ℕ → List ℕ
 children_at children node = slice_index_or children node []
 
+-- the nodes of the files in a directory, in the order of creation
+abbrev pub children_in : Files → List ℕ → List ℕ
+children_in tree directory = filter (λ node. is_in directory (path_of tree node)) tree.nodes
+
 -- the files make one tree, and each node knows its children
 pub record IsTree (tree : Files) (children : List (List ℕ)) : Type 0 where
   pub in_range : All (λ node. node < length tree.cells) tree.nodes
@@ -29,10 +33,8 @@ pub record IsTree (tree : Files) (children : List (List ℕ)) : Type 0 where
   pub closed : (node : ℕ) (directory : List ℕ) (id : ℕ) → IsLive tree node → path_of tree node ≡ directory ++ id ∷ []
       → (above : ℕ) × IsLive tree above × (path_of tree above ≡ directory)
   pub distinct : (one other : ℕ) → IsLive tree one → IsLive tree other → path_of tree one ≡ path_of tree other → one ≡ other
-  pub child_is : (node child : ℕ) → IsLive tree node → Contains (children_at children node) child
-      → IsLive tree child × IsIn (path_of tree node) (path_of tree child)
-  pub child_known : (node child : ℕ) → IsLive tree node → IsLive tree child → IsIn (path_of tree node) (path_of tree child)
-      → Contains (children_at children node) child
+  -- each node lists the files in it, in the order of creation
+  pub child_list : (node : ℕ) → IsLive tree node → children_at children node ≡ children_in tree (path_of tree node)
 
 -- whether each node is that of a file
 abbrev pub marks_of : Arena → List Bool

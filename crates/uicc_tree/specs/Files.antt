@@ -1,7 +1,5 @@
-use Rattle.std.specs.Prelude.{ℕ, ◌≡◌, ◌≢◌, ◌&&◌, List, [], map, find, nat_eq, Option, Some, None, Contains, slice_index_or}
-use Rattle.std.specs.List.{starts_with}
+use Rattle.std.specs.Prelude.{ℕ, ◌≡◌, ◌≢◌, List, [], map, Option, Some, None, Contains, slice_index_or}
 use Rattle.file_rows.specs.Content.{file_at}
-use Rattle.file_rows.specs.FileHead.{is_application}
 use Rattle.file_rows.specs.Path.{IsIn}
 use Rattle.file_rows.specs.declared.head.FileHead.{FileHead}
 use Rattle.file_rows.specs.declared.head.Kind.TheVariants.{Transparent}
@@ -48,6 +46,7 @@ abbrev pub HasSfi : Files → List ℕ → ℕ → ℕ → Type 0
 HasSfi tree directory sfi node =
     IsLive tree node × IsIn directory (path_of tree node) × (sfi ≢ 0) × ((file_of tree node).head.sfi ≡ sfi)
 
--- the first application, in the order in which they were made, whose name begins so
-abbrev pub application_named : List ℕ → List FileRow → Option FileRow
-application_named front rows = find (λ row. is_application row.head.kind && starts_with nat_eq row.head.name front) rows
+-- the node is the file's, and there is none where there is no file
+abbrev pub Gives : Files → Option ℕ → Option FileRow → Type 0
+Gives tree None row = row ≡ None
+Gives tree (Some node) row = IsLive tree node × (row ≡ Some (file_of tree node))

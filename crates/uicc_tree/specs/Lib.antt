@@ -1,5 +1,3 @@
 pub mod Arena
 pub mod Change
 pub mod Files
-pub mod Plain
-pub mod Sample

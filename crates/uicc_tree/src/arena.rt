@@ -3,10 +3,12 @@ ghost use Rattle.uicc_tree.specs.Arena.{files_of, children_of, children_at, chil
 ghost use Rattle.std.specs.List.{starts_with};
 ghost use Rattle.file_rows.specs.Content.{file_at};
 ghost use Rattle.file_rows.specs.FileHead.{is_application};
+ghost use Rattle.file_rows.specs.Find.{application_named};
 ghost use Rattle.file_rows.specs.Path.{IsIn, master};
-ghost use Rattle.uicc_tree.specs.Files.{IsLive, IsNodeOf, HasSfi, file_of, path_of, rows_of, application_named};
+ghost use Rattle.uicc_tree.specs.Change.{AreRows};
+ghost use Rattle.uicc_tree.specs.Files.{Gives, IsLive, IsNodeOf, HasSfi, file_of, path_of, rows_of};
 
-use file_rows::{FileHead, Kind};
+use file_rows::FileHead;
 use smallvec::SmallVec;
 use std::alloc::{AllocError, Global};
 
@@ -41,10 +43,10 @@ fn ends_with(path: &[u16], id: u16) -> bool
 }
 
 // Whether this is an application whose name begins so.
-fn is_named(head: &FileHead, front: &[u8]) -> bool
-    ensures { result ≡ is_application head.now.kind && starts_with nat_eq head.now.name front.now }
+fn is_named(head: &FileHead, prefix: &[u8]) -> bool
+    ensures { result ≡ is_application head.now.kind && starts_with nat_eq head.now.name prefix.now }
 {
-    head.kind == Kind::Application && head.name.as_slice().starts_with(front)
+    head.kind.is_application() && head.name.as_slice().starts_with(prefix)
 }
 
 impl Arena {
@@ -80,6 +82,15 @@ impl Arena {
         self.slots[node as usize].children.as_slice()
     }
 
+    // The node of the MF, where there are files.
+    fn master(&self) -> Option<u32>
+        requires { IsArena self.now }
+        ensures found { IfSome result (λ node. IsLive (files_of self.now) node × (path_of (files_of self.now) node ≡ master)) }
+        ensures none { IfNone result ((files_of self.now).nodes ≡ []) }
+    {
+        self.order.first().copied()
+    }
+
     // The node of the file of this identifier in a file.
     pub fn child_with(&self, node: u32, id: u16) -> Option<u32>
         requires arena { IsArena self.now }
@@ -107,7 +118,7 @@ impl Arena {
         ensures node { IfSome result (IsNodeOf (files_of self.now) path.now) }
         ensures no_file { IfNone result (file_at path.now (rows_of (files_of self.now)) ≡ None) }
     {
-        let mut node = *self.order.first()?;
+        let mut node = self.master()?;
         for id in path {
             node = self.child_with(node, *id)?;
         }
@@ -132,31 +143,19 @@ impl Arena {
         None
     }
 
-    // The node of the first application whose name begins so.
-    pub fn application_named(&self, front: &[u8]) -> Option<u32>
-        requires { IsArena self.now }
-        ensures found { IfSome result (λ node. IsLive (files_of self.now) node
-            × (application_named front.now (rows_of (files_of self.now)) ≡ Some (file_of (files_of self.now) node))) }
-        ensures none { IfNone result (application_named front.now (rows_of (files_of self.now)) ≡ None) }
+    // The node of the first application whose name begins so. Applications stand in the MF.
+    pub fn application_named(&self, prefix: &[u8]) -> Option<u32>
+        requires arena { IsArena self.now }
+        requires rows { AreRows (rows_of (files_of self.now)) }
+        ensures { Gives (files_of self.now) result (application_named prefix.now (rows_of (files_of self.now))) }
     {
-        for node in self.order.as_slice() {
-            if is_named(self.head(*node), front) {
-                return Some(*node);
+        let master = self.master()?;
+        for child in self.children(master) {
+            if is_named(self.head(*child), prefix) {
+                return Some(*child);
             }
         }
         None
-    }
-
-    // The node of the file in which this one stands.
-    pub fn parent(&self, node: u32) -> Option<u32>
-        requires arena { IsArena self.now }
-        requires live { IsLive (files_of self.now) node }
-        ensures found { IfSome result (λ above. IsLive (files_of self.now) above
-            × IsIn (path_of (files_of self.now) above) (path_of (files_of self.now) node)) }
-        ensures none { IfNone result (path_of (files_of self.now) node ≡ master) }
-    {
-        let (_, directory) = self.head(node).path.as_slice().split_last()?;
-        self.find(directory)
     }
 
     // The node of the file in which a file of this path stands.

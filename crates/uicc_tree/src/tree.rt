@@ -1,13 +1,14 @@
-ghost use Rattle.std.specs.Prelude.{◌≡◌, ◌≢◌, ℕ, ◌++◌, ◌∷◌, [], List, Some, None, Option, IsSome, OnOk, IfOk, IfSome, IfNone, ◌⊎◌};
+ghost use Rattle.std.specs.Prelude.{◌≡◌, ℕ, [], List, Option, IsSome, OnOk, IfOk, ◌⊎◌};
 ghost use Rattle.file_rows.specs.Content.{AreFiles, file_at};
-ghost use Rattle.file_rows.specs.Path.{IsIn, master};
+ghost use Rattle.file_rows.specs.Find.{application_named, child, child_with_sfi, file_of_path};
+ghost use Rattle.file_rows.specs.Path.{parent_of};
 ghost use Rattle.uicc_tree.specs.Arena.{HasDirectory, StandsIn};
 ghost use Rattle.uicc_tree.specs.Change.{FitsFiles, HasRoom, Outlives, rows_after};
-ghost use Rattle.uicc_tree.specs.Files.{IsLive, IsNodeOf, HasSfi, file_of, path_of, rows_of, application_named};
+ghost use Rattle.uicc_tree.specs.Files.{Gives, IsLive, file_of, path_of, rows_of};
 
 use crate::arena::Arena;
 use crate::room::Room;
-use file_rows::{Change, FileHead, FileRow, Kind, NoMemory};
+use file_rows::{Change, FileHead, FileRow, NoMemory, Path, parent_of};
 use std::alloc::Global;
 use std::marker::Model;
 use std::mem;
@@ -65,25 +66,31 @@ impl Tree {
         })
     }
 
-    /// The node of the file of this path; the MF's is empty. It looks at the children of each file on the way.
+    /// The node of the file at a path; the MF's is empty. It looks at the children of each file on the way.
     pub fn find(&self, path: &[u16]) -> Option<u32>
-        ensures found { IfSome result (IsNodeOf self.now path.now) }
-        ensures none { IfNone result (file_at path.now (rows_of self.now) ≡ None) }
+        ensures { Gives self.now result (file_at path.now (rows_of self.now)) }
     {
         self.arena.find(path)
+    }
+
+    /// The node of the file at a path, where there is a path. It looks at the children of each file on the way.
+    pub fn find_path(&self, path: &Option<Path>) -> Option<u32>
+        ensures { Gives self.now result (file_of_path (rows_of self.now) path.now) }
+    {
+        match path {
+            None => None,
+            Some(path) => self.find(path.as_slice()),
+        }
     }
 
     /// The node of the file of this identifier in a directory, unless it is an application. It looks at the
     /// directory's children.
     pub fn child(&self, node: u32, id: u16) -> Option<u32>
         requires { IsLive self.now node }
-        ensures found { IfSome result (IsNodeOf self.now (path_of self.now node ++ id ∷ [])) }
-        ensures no_application { IfSome result (λ child. (file_of self.now child).head.kind ≢ Kind.Application) }
-        ensures none { IfNone result (IfSome (file_at (path_of self.now node ++ id ∷ []) (rows_of self.now))
-            (λ row. row.head.kind ≡ Kind.Application)) }
+        ensures { Gives self.now result (child (rows_of self.now) (path_of self.now node) id) }
     {
         let child = self.arena.child_with(node, id)?;
-        if self.arena.head(child).kind == Kind::Application {
+        if self.arena.head(child).kind.is_application() {
             return None;
         }
         Some(child)
@@ -92,20 +99,24 @@ impl Tree {
     /// The node of the file of this short file identifier, 1 to 30, in a directory. It looks at the directory's children.
     pub fn by_sfi(&self, node: u32, sfi: u8) -> Option<u32>
         requires { IsLive self.now node }
-        ensures found { IfSome result (HasSfi self.now (path_of self.now node) sfi) }
-        ensures none { IfNone result ((file : ℕ) → ¬ HasSfi self.now (path_of self.now node) sfi file) }
+        ensures { Gives self.now result (child_with_sfi (rows_of self.now) (path_of self.now node) sfi) }
     {
         self.arena.child_with_sfi(node, sfi)
     }
 
-    /// The node of the first application, in the order in which they were made, whose name begins so. It looks at the
-    /// kind of each file.
-    pub fn by_name(&self, front: &[u8]) -> Option<u32>
-        ensures found { IfSome result (λ node. IsLive self.now node
-            × (application_named front.now (rows_of self.now) ≡ Some (file_of self.now node))) }
-        ensures none { IfNone result (application_named front.now (rows_of self.now) ≡ None) }
+    /// The node of the first application, in the order of creation, whose name begins so. It looks at the MF's children.
+    pub fn by_name(&self, prefix: &[u8]) -> Option<u32>
+        ensures { Gives self.now result (application_named prefix.now (rows_of self.now)) }
     {
-        self.arena.application_named(front)
+        self.arena.application_named(prefix)
+    }
+
+    /// The node of the directory in which a file stands; the MF stands in none. It goes down from the MF.
+    pub fn parent(&self, node: u32) -> Option<u32>
+        requires { IsLive self.now node }
+        ensures { Gives self.now result (file_of_path (rows_of self.now) (parent_of (path_of self.now node))) }
+    {
+        self.find_path(&parent_of(&self.head(node).path))
     }
 
     /// What is known of a file beside its body.
@@ -122,15 +133,6 @@ impl Tree {
         ensures { result.now ≡ (file_of self.now node).body }
     {
         self.arena.bytes(node)
-    }
-
-    /// The node of the file in which this one stands; the MF stands in none. It goes down from the MF.
-    pub fn parent(&self, node: u32) -> Option<u32>
-        requires { IsLive self.now node }
-        ensures found { IfSome result (λ above. IsLive self.now above × IsIn (path_of self.now above) (path_of self.now node)) }
-        ensures none { IfNone result (path_of self.now node ≡ master) }
-    {
-        self.arena.parent(node)
     }
 
     /// Takes the memory that `apply` needs for this change, in place of what was taken for an earlier new file or size.

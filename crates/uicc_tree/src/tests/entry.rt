@@ -26,7 +26,7 @@ impl Entry {
     // An active file, whose rule is in the EF ARR 2F06 for the files of the MF, else in 6F06.
     pub fn head(&self, rt: &impl Abort) -> FileHead {
         let Entry(ids, kind, record_len, size, sfi, rule, text) = *self;
-        let name = if kind == Kind::Application { text } else { &[] };
+        let name = if kind.is_application() { text } else { &[] };
         assert!(rt; name.len() <= 16);
         FileHead {
             path: path(rt, ids),
@@ -45,12 +45,12 @@ impl Entry {
 
     // Its body goes on with FF.
     pub fn row(&self, rt: &impl Abort, alloc: Global) -> Result<FileRow, NoMemory> {
-        let front = if self.1 == Kind::Application {
+        let bytes = if self.1.is_application() {
             &[]
         } else {
             self.6
         };
-        let mut body = Vec::from_slice(alloc, front)?;
+        let mut body = Vec::from_slice(alloc, bytes)?;
         body.resize(usize::from(self.3), 0xFF)?;
         Ok(FileRow {
             head: self.head(rt),

@@ -36,7 +36,7 @@ impl Random {
     }
 }
 
-const NAME_FRONT: &[u8] = b"\xA0\x00\x00\x00\x87";
+const NAME_PREFIX: &[u8] = b"\xA0\x00\x00\x00\x87";
 
 const ONE_NAME: &[u8] = b"\xA0\x00\x00\x00\x87\x10\x02";
 
@@ -138,7 +138,7 @@ fn are_alike(rt: &impl Abort, content: &Content, tree: &Tree) {
         assert_eq!(rt; tree.find(entry.0).is_some(), there);
     }
     let first = rows.iter().find(|row| row.head.kind == Kind::Application);
-    let named = tree.by_name(NAME_FRONT);
+    let named = tree.by_name(NAME_PREFIX);
     match first {
         Some(row) => assert_eq!(rt; named, tree.find(row.head.path.as_slice())),
         None => assert_eq!(rt; named, None),
@@ -147,14 +147,13 @@ fn are_alike(rt: &impl Abort, content: &Content, tree: &Tree) {
 
 #[test]
 fn a_tree_and_a_plain_content_change_alike(rt: HostRuntime) -> Result<(), Fail> {
-    let alloc = rt.alloc();
-    let (mut content, mut tree) = made(&rt, alloc, &FILES)?;
+    let (mut content, mut tree) = made(&rt, rt.alloc(), &FILES)?;
     let mut random = Random(1);
     let mut made = [0u32; 6];
     'changes: for _ in 0..5000 {
         let kind = random_kind(&mut random);
         let change = random_change(&rt, &mut random, kind);
-        if step(alloc, &mut content, &mut tree, &change)? {
+        if step(&mut content, &mut tree, &change)? {
             made[kind] = made[kind].saturating_add(1);
             are_alike(&rt, &content, &tree);
         }

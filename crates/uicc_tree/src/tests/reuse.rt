@@ -1,5 +1,6 @@
 //! Files that go and come back in turn take the nodes that were freed.
-ghost use Rattle.std.specs.Prelude.{◌≡◌, [], OnOk};
+ghost use Rattle.std.specs.Prelude.{◌≡◌, OnOk};
+ghost use Rattle.file_rows.specs.Content.{IsValid};
 ghost use Rattle.uicc_tree.specs.Files.{rows_of};
 
 use super::entry::{Entry, path};
@@ -31,27 +32,26 @@ fn nodes_of(rt: &impl Abort, alloc: Global, tree: &Tree) -> Result<Vec<u32>, NoM
 // The first of the files goes, with those below it, and all come back.
 fn go_and_come(
     rt: &impl Abort,
-    alloc: Global,
     content: &mut Content,
     tree: &mut Tree,
     files: &[Entry],
 ) -> Result<(), NoMemory>
     requires same { rows_of tree.old ≡ content.old.rows }
-    requires no_pins { content.old.pins ≡ [] }
+    requires valid { IsValid content.old }
     ensures same { OnOk result (rows_of tree.new ≡ content.new.rows) }
-    ensures no_pins { OnOk result (content.new.pins ≡ []) }
+    ensures valid { OnOk result (IsValid content.new) }
 {
     let top = files.first().expect(rt, "a file");
     let gone = Change::FileGone {
         path: path(rt, top.0),
     };
-    let goes = step(alloc, content, tree, &gone)?;
+    let goes = step(content, tree, &gone)?;
     assert!(rt; goes && tree.find(top.0).is_none());
     for entry in files {
         let add = Change::FileAdd {
             head: entry.head(rt),
         };
-        let comes = step(alloc, content, tree, &add)?;
+        let comes = step(content, tree, &add)?;
         assert!(rt; comes);
     }
     Ok(())
@@ -68,7 +68,7 @@ fn the_nodes_of_files_that_went_are_used_again(rt: HostRuntime) -> Result<(), Fa
         } else {
             &FILES[2..]
         };
-        go_and_come(&rt, alloc, &mut content, &mut tree, files)?;
+        go_and_come(&rt, &mut content, &mut tree, files)?;
         let nodes = nodes_of(&rt, alloc, &tree)?;
         assert_eq!(rt; nodes.as_slice(), first.as_slice());
     }

@@ -1,12 +1,11 @@
 // A tree and the plain content that it is to be like.
-ghost use Rattle.std.specs.Prelude.{◌≡◌, ◌≤◌, [], IfOk, OnOk};
-ghost use Rattle.file_rows.specs.Content.{use_of};
+ghost use Rattle.std.specs.Prelude.{◌≡◌, ◌≤◌, IfOk, OnOk};
+ghost use Rattle.file_rows.specs.Content.{IsValid, use_of};
 ghost use Rattle.uicc_tree.specs.Files.{rows_of};
 
 use super::entry::Entry;
-use super::plain::{changed, is_there};
 use crate::Tree;
-use file_rows::{Change, Content, FileRow, Kind, NoMemory, QUOTA};
+use file_rows::{Change, Content, FileRow, NoMemory, QUOTA};
 use plain_lists::LongList;
 use std::alloc::Global;
 use std::process::Abort;
@@ -14,7 +13,7 @@ use std::process::Abort;
 // A content of these files without PINs, and its tree.
 pub fn made(rt: &impl Abort, alloc: Global, entries: &[Entry]) -> Result<(Content, Tree), NoMemory>
     ensures same { IfOk result (λ sides. rows_of sides.1 ≡ sides.0.rows) }
-    ensures no_pins { IfOk result (λ sides. sides.0.pins ≡ []) }
+    ensures valid { IfOk result (λ sides. IsValid sides.0) }
     ensures quota { IfOk result (λ sides. use_of sides.0.rows ≤ QUOTA) }
 {
     let mut rows = LongList::new(alloc);
@@ -29,24 +28,16 @@ pub fn made(rt: &impl Abort, alloc: Global, entries: &[Entry]) -> Result<(Conten
 }
 
 // Makes a change on both sides where it fits, and says whether it did.
-pub fn step(
-    alloc: Global,
-    content: &mut Content,
-    tree: &mut Tree,
-    change: &Change,
-) -> Result<bool, NoMemory>
+pub fn step(content: &mut Content, tree: &mut Tree, change: &Change) -> Result<bool, NoMemory>
     requires same { rows_of tree.old ≡ content.old.rows }
-    requires no_pins { content.old.pins ≡ [] }
+    requires valid { IsValid content.old }
     ensures same { OnOk result (rows_of tree.new ≡ content.new.rows) }
-    ensures no_pins { OnOk result (content.new.pins ≡ []) }
+    ensures valid { OnOk result (IsValid content.new) }
 {
-    if !is_there(content, change) {
+    if !content.fits(change) {
         return Ok(false);
     }
-    let after = changed(alloc, content, change)?;
-    if !after.is_valid() {
-        return Ok(false);
-    }
+    let after = content.changed(change)?;
     tree.reserve(change)?;
     tree.apply(change);
     *content = after;
@@ -65,7 +56,7 @@ pub fn is_found(rt: &impl Abort, tree: &Tree, row: &FileRow) {
     };
     let above = tree.find(directory).expect(rt, "its directory");
     assert_eq!(rt; tree.parent(node), Some(above));
-    let is_application = row.head.kind == Kind::Application;
+    let is_application = row.head.kind.is_application();
     let child = tree.child(above, *id);
     assert_eq!(rt; child, if is_application { None } else { Some(node) });
     let by_sfi = tree.by_sfi(above, row.head.sfi);

@@ -1,25 +1,40 @@
-use Rattle.std.proofs.Common.{ℕ, ◌&&◌, List, map, nat_eq, get_or, Contains, ap, subst, sym, ◌∙◌}
-use Rattle.std.proofs.lemmas.List.Elements.{Contains-get_or}
-use Rattle.std.specs.List.{starts_with}
-use Rattle.file_rows.specs.FileHead.{is_application}
+use Rattle.std.proofs.Common.{◌≡◌, ℕ, ◌∷◌, [], map, None, find, take, sym, ◌∙◌, ap}
+use Rattle.std.proofs.lemmas.List.{take_all}
+use Rattle.file_rows.specs.Find.{application_named}
+use Rattle.file_rows.specs.declared.head.FileHead.{FileHead}
+use Rattle.file_rows.specs.declared.row.FileRow.{FileRow}
+use Rattle.uicc_tree.specs.Arena.{children_of, files_of}
+use Rattle.uicc_tree.specs.Files.{IsLive, file_of, path_of, rows_of}
 use Rattle.uicc_tree.proofs.FindLemmas.{find_at, find_more}
-use Rattle.uicc_tree.specs.Arena.{files_of}
-use Rattle.uicc_tree.specs.Files.{IsLive, application_named, file_of}
+use Rattle.uicc_tree.proofs.NameLemmas.{is_named, is_named_head, named_in_master}
+use Rattle.uicc_tree.proofs.TreeLemmas.{child_at, in_slots}
 use Rattle.uicc_tree.proofs.arena.Arena.application_named.Goals as goal
 
-pub returns-then-is_named-clause-found : goal.returns-then-is_named-clause-found
-returns-then-is_named-clause-found c =
-    let tree = files_of c.args.self.now in
-    let items = c.as_slice-node-items.ensures.value in
-    let at : ℕ = get_or c.as_slice-node-items.result.now c.loop-node.node-index 0 in
-    let live : IsLive tree at =
-    subst (λ (nodes : List ℕ). Contains nodes at) items (Contains-get_or c.as_slice-node-items.result.now c.loop-node.node-index 0 c.loop-node-test.true) in
-    let passes = ap (λ h. is_application h.kind && starts_with nat_eq h.name c.args.front.now) (sym c.head.ensures) ∙ sym c.is_named.ensures ∙ c.if-is_named.true in
-    let found = find_at (file_of tree) (λ row. is_application row.head.kind && starts_with nat_eq row.head.name c.args.front.now) c.as_slice-node-items.result.now c.loop-node.node-index c.loop-node-test.true c.loop-node.invariant passes in
-    (live, ap (λ (nodes : List ℕ). application_named c.args.front.now (map (file_of tree) nodes)) (sym items) ∙ found)
+pub head-requires : goal.head-requires
+head-requires c =
+    in_slots c.args.self.now c.requires.arena _
+    (child_at c.args.self.now c.requires.arena c.in_ok-master.master c.in_ok-master.ensures.found.0 c.children-child-items.result.now c.children-child-items.ensures c.loop-child.child-index c.loop-child-test.true).0
 
-pub loop-node-preserved : goal.loop-node-preserved
-loop-node-preserved c =
+pub returns-then-is_named : goal.returns-then-is_named
+returns-then-is_named c =
     let tree = files_of c.args.self.now in
-    let fails = ap (λ h. is_application h.kind && starts_with nat_eq h.name c.args.front.now) (sym c.head.ensures) ∙ sym c.is_named.ensures ∙ c.if-is_named.false in
-    find_more (file_of tree) (λ row. is_application row.head.kind && starts_with nat_eq row.head.name c.args.front.now) c.as_slice-node-items.result.now c.loop-node.node-index c.loop-node-test.true c.loop-node.invariant fails
+    let items = c.children-child-items.result.now in
+    let passes = ap (is_named_head c.args.prefix.now) (sym c.head.ensures) ∙ sym c.is_named.ensures ∙ c.if-is_named.true in (
+      (child_at c.args.self.now c.requires.arena c.in_ok-master.master c.in_ok-master.ensures.found.0 items c.children-child-items.ensures c.loop-child.child-index c.loop-child-test.true).0,
+      sym (named_in_master tree (children_of c.args.self.now) c.requires.arena.tree c.requires.rows c.args.prefix.now c.in_ok-master.master c.in_ok-master.ensures.found.0 c.in_ok-master.ensures.found.1
+          items c.children-child-items.ensures)
+          ∙ find_at (file_of tree) (is_named c.args.prefix.now) items c.loop-child.child-index c.loop-child-test.true c.loop-child.invariant passes,
+    )
+
+pub loop-child-preserved : goal.loop-child-preserved
+loop-child-preserved c =
+    find_more (file_of (files_of c.args.self.now)) (is_named c.args.prefix.now) c.children-child-items.result.now c.loop-child.child-index c.loop-child-test.true c.loop-child.invariant
+    (ap (is_named_head c.args.prefix.now) (sym c.head.ensures) ∙ sym c.is_named.ensures ∙ c.if-is_named.false)
+
+pub returns : goal.returns
+returns c =
+    let tree = files_of c.args.self.now in
+    let items = c.children-child-items.result.now in
+    sym (named_in_master tree (children_of c.args.self.now) c.requires.arena.tree c.requires.rows c.args.prefix.now c.in_ok-master.master c.in_ok-master.ensures.found.0 c.in_ok-master.ensures.found.1
+    items c.children-child-items.ensures)
+    ∙ ap (λ ns. find (is_named c.args.prefix.now) (map (file_of tree) ns)) (sym (take_all c.loop-child.child-index items c.loop-child-test.false)) ∙ c.loop-child.invariant

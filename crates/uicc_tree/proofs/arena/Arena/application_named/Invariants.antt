@@ -1,7 +1,8 @@
-use Rattle.std.proofs.Common.{◌≡◌, None, map, take}
+use Rattle.std.proofs.Common.{◌≡◌, None, map, find, take}
 use Rattle.uicc_tree.specs.Arena.{files_of}
-use Rattle.uicc_tree.specs.Files.{application_named, file_of}
+use Rattle.uicc_tree.specs.Files.{file_of}
+use Rattle.uicc_tree.proofs.NameLemmas.{is_named}
 use Rattle.uicc_tree.proofs.arena.Arena.application_named.Given as goal
 
-abbrev pub invariant-loop-node : goal.invariant-loop-node
-invariant-loop-node l = application_named l.front (map (file_of (files_of l.self)) (take l.node-index l.node-items)) ≡ None
+abbrev pub invariant-loop-child : goal.invariant-loop-child
+invariant-loop-child l = find (is_named l.prefix) (map (file_of (files_of l.self)) (take l.child-index l.child-items)) ≡ None

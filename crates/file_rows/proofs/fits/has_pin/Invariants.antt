@@ -1,0 +1,7 @@
+use Rattle.std.proofs.Common.{◌↔◌, drop}
+use Rattle.std.specs.Prelude.{Any}
+use Rattle.file_rows.specs.Change.{KeepsPin}
+use Rattle.file_rows.proofs.fits.has_pin.Given as goal
+
+abbrev pub invariant-loop-pin : goal.invariant-loop-pin
+invariant-loop-pin l = Any (λ pin. KeepsPin pin l.set) (drop l.pin-index l.pins) ↔ Any (λ pin. KeepsPin pin l.set) l.pins
