@@ -74,30 +74,73 @@ second key least most = inl (inr (inl (least, most)))
 
 -- each of the list is a key
 each_is_key : AllByRecursion IsKey KEYS
-each_is_key =
-    (first 1 (lit≤ tt) (lit≤ tt),
-    (first 2 (lit≤ tt) (lit≤ tt),
-    (first 3 (lit≤ tt) (lit≤ tt),
-    (first 4 (lit≤ tt) (lit≤ tt),
-    (first 5 (lit≤ tt) (lit≤ tt),
-    (first 6 (lit≤ tt) (lit≤ tt),
-    (first 7 (lit≤ tt) (lit≤ tt),
-    (first 8 (lit≤ tt) (lit≤ tt),
-    (second 10 (lit≤ tt) (lit≤ tt),
-    (second 11 (lit≤ tt) (lit≤ tt),
-    (second 12 (lit≤ tt) (lit≤ tt),
-    (second 13 (lit≤ tt) (lit≤ tt),
-    (second 14 (lit≤ tt) (lit≤ tt),
-    (inl (inr (inr refl)),
-    (inr (lit≤ tt, lit≤ tt),
-    (inr (lit≤ tt, lit≤ tt),
-    (inr (lit≤ tt, lit≤ tt),
-    (inr (lit≤ tt, lit≤ tt),
-    (inr (lit≤ tt, lit≤ tt),
-    (inr (lit≤ tt, lit≤ tt),
-    (inr (lit≤ tt, lit≤ tt),
-    (inr (lit≤ tt, lit≤ tt),
-    tt))))))))))))))))))))))
+each_is_key = (
+  first 1 (lit≤ tt) (lit≤ tt),
+  (
+    first 2 (lit≤ tt) (lit≤ tt),
+    (
+      first 3 (lit≤ tt) (lit≤ tt),
+      (
+        first 4 (lit≤ tt) (lit≤ tt),
+        (
+          first 5 (lit≤ tt) (lit≤ tt),
+          (
+            first 6 (lit≤ tt) (lit≤ tt),
+            (
+              first 7 (lit≤ tt) (lit≤ tt),
+              (
+                first 8 (lit≤ tt) (lit≤ tt),
+                (
+                  second 10 (lit≤ tt) (lit≤ tt),
+                  (
+                    second 11 (lit≤ tt) (lit≤ tt),
+                    (
+                      second 12 (lit≤ tt) (lit≤ tt),
+                      (
+                        second 13 (lit≤ tt) (lit≤ tt),
+                        (
+                          second 14 (lit≤ tt) (lit≤ tt),
+                          (
+                            inl (inr (inr refl)),
+                            (
+                              inr (lit≤ tt, lit≤ tt),
+                              (
+                                inr (lit≤ tt, lit≤ tt),
+                                (
+                                  inr (lit≤ tt, lit≤ tt),
+                                  (
+                                    inr (lit≤ tt, lit≤ tt),
+                                    (
+                                      inr (lit≤ tt, lit≤ tt),
+                                      (
+                                        inr (lit≤ tt, lit≤ tt),
+                                        (
+                                          inr (lit≤ tt, lit≤ tt),
+                                          (
+                                            inr (lit≤ tt, lit≤ tt),
+                                            tt,
+                                          ),
+                                        ),
+                                      ),
+                                    ),
+                                  ),
+                                ),
+                              ),
+                            ),
+                          ),
+                        ),
+                      ),
+                    ),
+                  ),
+                ),
+              ),
+            ),
+          ),
+        ),
+      ),
+    ),
+  ),
+)
 
 each_at : (P : ℕ → Type 0) (xs : List ℕ) (x : ℕ) → AllByRecursion P xs → Contains xs x → P x
 each_at P [] x each there = absurd (omega (arith, there.1))
@@ -141,10 +184,10 @@ module _ (path : List ℕ) (pins : List PinRow) where
   keys_are (key ∷ keys) =
       let rest = keys_are keys in
       let step : (o : Option PinRow)
-          → map (λ (status : PinStatus). status.key) (cons_option (option_map (λ (pin : PinRow). record { key = key; enabled = pin.enabled }) o) (filter_map (status_of path pins) keys))
-          ≡ cond (is_some (option_map (λ (pin : PinRow). made_status key pin) o)) (key ∷ filter has_status keys) (filter has_status keys)
+      → map (λ (status : PinStatus). status.key) (cons_option (option_map (λ (pin : PinRow). record { key = key; enabled = pin.enabled }) o) (filter_map (status_of path pins) keys))
+      ≡ cond (is_some (option_map (λ (pin : PinRow). made_status key pin) o)) (key ∷ filter has_status keys) (filter has_status keys)
       = λ o. elim o as (λ o. map (λ (status : PinStatus). status.key) (cons_option (option_map (λ (pin : PinRow). record { key = key; enabled = pin.enabled }) o) (filter_map (status_of path pins) keys))
-        ≡ cond (is_some (option_map (λ (pin : PinRow). made_status key pin) o)) (key ∷ filter has_status keys) (filter has_status keys)) [
+      ≡ cond (is_some (option_map (λ (pin : PinRow). made_status key pin) o)) (key ∷ filter has_status keys) (filter has_status keys)) [
         | None ↦ rest
         | Some pin ↦ ap (λ (ks : List ℕ). key ∷ ks) rest
       ]
@@ -190,5 +233,5 @@ module _ (path : List ℕ) (pins : List PinRow) where
         (each_at IsKey KEYS key each_is_key kept.0, status_there key pins kept.1),
     λ is.
         subst (λ (keys : List ℕ). Contains keys key) (sym (keys_are KEYS))
-            (filter-contains has_status KEYS key (key_listed key is.0) (pin_there key pins is.1)),
+        (filter-contains has_status KEYS key (key_listed key is.0) (pin_there key pins is.1)),
   )

@@ -13,7 +13,8 @@ use Rattle.fcp_codec.specs.Values.{id_of, size_of, sfi_of, name_of, life_of, is_
 
 -- the tags of the fields; objects with other tags are passed over
 abbrev pub field_tags : List ℕ
-field_tags = DESCRIPTOR ∷ IDENTIFIER ∷ NAME ∷ PROPRIETARY ∷ LIFE ∷ RULE ∷ PIN_STATUS ∷ SIZE ∷ SFI ∷ []
+field_tags = DESCRIPTOR ∷ IDENTIFIER ∷ NAME ∷ PROPRIETARY ∷ LIFE ∷ RULE ∷ PIN_STATUS ∷ SIZE ∷ SFI
+    ∷ []
 
 abbrev pub is_field : ℕ → Bool
 is_field tag = list_any (λ other. tag == other) field_tags
@@ -26,12 +27,14 @@ field tag (object ∷ objects) = if object.tag == tag then Some object.value els
 -- after these objects, this one is a field that stands there again or is malformed
 abbrev pub is_bad : List Object → Object → Bool
 is_bad before object =
-    is_field object.tag && (is_some (field object.tag before) || not (is_well_formed object.tag object.value))
+    is_field object.tag
+    && (is_some (field object.tag before) || not (is_well_formed object.tag object.value))
 
 -- after those before them, none of these objects is bad
 abbrev pub NoneIsBad : List Object → List Object → Type 0
 NoneIsBad before [] = ⊤
-NoneIsBad before (object ∷ objects) = (is_bad before object ≡ false) × NoneIsBad (before ++ object ∷ []) objects
+NoneIsBad before (object ∷ objects) = (is_bad before object ≡ false)
+    × NoneIsBad (before ++ object ∷ []) objects
 
 -- what the fields say
 abbrev pub fcp_of : List Object → Fcp

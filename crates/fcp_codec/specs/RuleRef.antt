@@ -4,8 +4,8 @@ use Rattle.file_rows.specs.declared.head.Rule.{Rule}
 use Rattle.fcp_codec.specs.declared.fcp.RuleRef.{RuleRef}
 use Rattle.fcp_codec.specs.declared.fcp.RuleRef.TheVariants.{Whole, Row}
 
--- A record alone; or the EF ARR and the record; or the EF ARR and pairs of a security environment and a
--- record, of which the first pair counts.
+-- A record alone; or the EF ARR and the record; or the EF ARR and pairs of a security environment
+-- and a record, of which the first pair counts.
 abbrev pub rule_of : List ℕ → Option RuleRef
 rule_of [] = None
 rule_of (a ∷ []) = Some (Row a)
@@ -17,4 +17,5 @@ rule_of (a ∷ b ∷ c ∷ d ∷ pairs) =
 -- the rule that is meant for a file with this path
 abbrev pub rule_at : RuleRef → List ℕ → Rule
 rule_at (Whole rule) path = rule
-rule_at (Row row) path = record { file = if nat_le (length path) 1 then 0x2F06 else 0x6F06; row = row }
+rule_at (Row row) path = record
+    { file = if nat_le (length path) 1 then 0x2F06 else 0x6F06; row = row }

@@ -10,7 +10,8 @@ use Rattle.fcp_codec.specs.Values.{descriptor_of, id_of, size_of, sfi_of, name_o
 use Rattle.fcp_codec.specs.Reading.{field, is_bad}
 
 -- a slot has what the value says, where there is one
-pub record Keeps {X : Type 0} (read : List ℕ → Option X) (value : Option (List ℕ)) (slot : Option X) : Type 0 where
+pub record Keeps {X : Type 0} (read : List ℕ
+    → Option X) (value : Option (List ℕ)) (slot : Option X) : Type 0 where
   pub says : slot ≡ option_and_then read value
   pub there : is_some slot ≡ is_some value
 

@@ -17,7 +17,8 @@ use Rattle.fcp_codec.specs.declared.fcp.RuleRef.TheVariants.{Whole}
 use Rattle.fcp_codec.specs.PinStatus.{statuses_of, status_objects}
 use Rattle.fcp_codec.specs.declared.tags.TheConstants.{TEMPLATE, SIZE, DESCRIPTOR, IDENTIFIER, NAME, SFI, LIFE, RULE, PROPRIETARY}
 
--- a descriptor byte, a data coding byte, and for record files the length of a record and how many there are
+-- a descriptor byte, a data coding byte, and for record files the length of a record and how many
+-- there are
 abbrev pub descriptor_for : Kind → ℕ → ℕ → List ℕ
 descriptor_for Master record_len size = 0x78 ∷ 0x21 ∷ []
 descriptor_for Directory record_len size = 0x78 ∷ 0x21 ∷ []
@@ -43,7 +44,11 @@ proprietary_objects true = record { tag = PROPRIETARY; value = 0x80 ∷ 0x01 ∷
 -- the EF ARR and the record
 abbrev pub rule_objects : Option Rule → List Object
 rule_objects None = []
-rule_objects (Some rule) = record { tag = RULE; value = to_be_bytes w16 rule.file ++ rule.row ∷ [] } ∷ []
+rule_objects (Some rule) = record {
+  tag = RULE;
+  value = to_be_bytes w16 rule.file ++ rule.row
+      ∷ [];
+} ∷ []
 
 abbrev pub sfi_objects : ℕ → List Object
 sfi_objects sfi = if sfi == 0 then [] else record { tag = SFI; value = sfi * 8 ∷ [] } ∷ []
@@ -51,7 +56,8 @@ sfi_objects sfi = if sfi == 0 then [] else record { tag = SFI; value = sfi * 8 �
 -- what only directories have, and what only EFs have
 abbrev pub last_objects : Bool → FileHead → List PinRow → List Object
 last_objects true head pins = status_objects (statuses_of head.path pins)
-last_objects false head pins = record { tag = SIZE; value = to_be_bytes w16 head.size } ∷ sfi_objects head.sfi
+last_objects false head pins = record { tag = SIZE; value = to_be_bytes w16 head.size }
+    ∷ sfi_objects head.sfi
 
 -- the fields, in order
 abbrev pub objects_for : FileHead → List PinRow → List Object

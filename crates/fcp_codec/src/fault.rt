@@ -6,7 +6,8 @@ use thiserror::Error;
 /// What is wrong with file control parameters.
 #[derive(Clone, Copy, Debug, PartialEq, Eq, Error)]
 pub enum FcpFault {
-    /// The first field that is malformed or stands there again; 0 where the list of fields is broken.
+    /// The first field that is malformed or stands there again; 0 where the list of fields is
+    /// broken.
     #[error("the field {tag:X} is malformed or stands there again")]
     BadField { tag: u32 },
 }

@@ -53,8 +53,8 @@ impl Fcp {
 impl RuleRef {
     ghost use Rattle.fcp_codec.specs.RuleRef.{rule_at};
 
-    /// The rule of a file with this path. A record alone is one of EF ARR 2F06 for the MF and files directly
-    /// under it, and one of EF ARR 6F06 for all others.
+    /// The rule of a file with this path. A record alone is one of EF ARR 2F06 for the MF and files
+    /// directly under it, and one of EF ARR 6F06 for all others.
     pub fn rule(self, path: &Path) -> Rule
         ensures { result ≡ rule_at self path.now }
     {

@@ -15,11 +15,14 @@ pub fn written_is_read()
         → ReadsAs (spelled (objects_for head pins)) (fcp_for head) }
 {}
 
-/// The keys in the list of PINs of a directory's control parameters (ETSI TS 102 221, PIN status template DO): the
-/// global keys `01` to `08`, `0A` to `0E` and `11` before the local keys `81` to `88`, each ascending, and each key of a
-/// PIN that counts there once.
+/// The keys in the list of PINs of a directory's control parameters (ETSI TS 102 221, PIN status
+/// template DO): the global keys `01` to `08`, `0A` to `0E` and `11` before the local keys `81` to
+/// `88`, each ascending, and each key of a PIN that counts there once.
 pub fn pins_are_listed_by_key()
-    ensures ascending { (path : List ℕ) (pins : List PinRow) → EachTwo (λ one other. one < other) (keys_of path pins) }
-    ensures listed { (path : List ℕ) (pins : List PinRow) (key : ℕ) → Contains (keys_of path pins) key
-        ↔ ((IsGlobalKey key ⊎ IsLocalKey key) × Any (λ pin. (pin.key ≡ key) × IsTrue (counts_in path pin)) pins) }
+    ensures ascending { (path : List ℕ) (pins : List PinRow)
+        → EachTwo (λ one other. one < other) (keys_of path pins) }
+    ensures listed { (path : List ℕ) (pins : List PinRow) (key : ℕ)
+        → Contains (keys_of path pins) key
+        ↔ ((IsGlobalKey key ⊎ IsLocalKey key)
+        × Any (λ pin. (pin.key ≡ key) × IsTrue (counts_in path pin)) pins) }
 {}

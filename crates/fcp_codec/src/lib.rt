@@ -1,5 +1,5 @@
-//! File control parameters (ETSI TS 102 221, ETSI TS 102 222): read from a command, and written for an answer.
-//! Nothing here takes memory.
+//! File control parameters (ETSI TS 102 221, ETSI TS 102 222): read from a command, and written for
+//! an answer. Nothing here takes memory.
 #![tactic(auto)]
 
 mod fault;

@@ -13,7 +13,8 @@ use arrayvec::ArrayVec;
 use file_rows::PinRow;
 use plain_lists::ShortList;
 
-/// The key references in the order in which they are listed: the global ones, and then the local ones.
+/// The key references in the order in which they are listed: the global ones, and then the local
+/// ones.
 pub const KEYS: [u8; 22] = [
     0x01, 0x02, 0x03, 0x04, 0x05, 0x06, 0x07, 0x08, 0x0A, 0x0B, 0x0C, 0x0D, 0x0E, 0x11, 0x81, 0x82,
     0x83, 0x84, 0x85, 0x86, 0x87, 0x88,
@@ -112,8 +113,8 @@ fn push_template(fields: &mut ArrayVec<u8, 127>, statuses: &[PinStatus])
     push_field(fields, tags::PIN_STATUS, &template);
 }
 
-/// Appends the PIN status template of the directory with that path: the PINs that count there, in the order of
-/// their keys. Without such a PIN there is none.
+/// Appends the PIN status template of the directory with that path: the PINs that count there, in
+/// the order of their keys. Without such a PIN there is none.
 pub fn push_status(fields: &mut ArrayVec<u8, 127>, path: &[u16], pins: &[PinRow])
     requires { array_vec_len fields.old ≤ 54 }
     ensures { fields.new.items ≡ fields.old.items

@@ -129,10 +129,12 @@ fn answer_of(value: &[u8]) -> Result<Fcp, FcpFault>
     Ok(fields.into_fcp())
 }
 
-/// Reads the fields of file control parameters: the value of a template `62`, or of the file descriptor in a
-/// profile package. They come in any order, each at most once; objects with other tags are passed over.
+/// Reads the fields of file control parameters: the value of a template `62`, or of the file
+/// descriptor in a profile package. They come in any order, each at most once; objects with other
+/// tags are passed over.
 ///
-/// The first field is refused that stands there again or is malformed, and so is a broken list of fields.
+/// The first field is refused that stands there again or is malformed, and so is a broken list of
+/// fields.
 pub fn read_fcp(value: &[u8]) -> Result<Fcp, FcpFault>
     ensures answer { Answers value.now result }
     // There is no other answer.

@@ -136,9 +136,9 @@ fn push_fields(fields: &mut ArrayVec<u8, 127>, head: &FileHead, pins: &[PinRow])
     push_last(fields, head, pins);
 }
 
-/// The file control parameters of a file, inside the template `62` (ETSI TS 102 221, "Response data" of SELECT).
-/// The template of a directory lists those of the PINs that count there, by key: the ones at home in the MF, and
-/// then the ones at home in it. For an EF they aren't looked at.
+/// The file control parameters of a file, inside the template `62` (ETSI TS 102 221, "Response
+/// data" of SELECT). The template of a directory lists those of the PINs that count there, by key:
+/// the ones at home in the MF, and then the ones at home in it. For an EF they aren't looked at.
 pub fn put_fcp(head: &FileHead, pins: &[PinRow]) -> ShortList<u8, 130>
     requires { IsFile head.now }
     ensures { result ≡ written_fcp head.now pins.now }

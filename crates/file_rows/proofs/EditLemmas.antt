@@ -94,8 +94,13 @@ module _ (before after : List FileRow) (row row' : FileRow) (path : row'.head.pa
   heads_split x = map-append (λ (r : FileRow). r.head) before (x ∷ after)
 
   pub use_replaced : use_of (with_row row') + length row.body ≡ use_of (with_row row) + length row'.body
-  use_replaced = omega (arith, sum_by-append (λ (r : FileRow). length r.body + 32) before (row ∷ after), sum_by-append (λ (r : FileRow). length r.body + 32) before (row' ∷ after),
-      sum_by-cons (λ (r : FileRow). length r.body + 32) row after, sum_by-cons (λ (r : FileRow). length r.body + 32) row' after)
+  use_replaced = omega (
+    arith,
+    sum_by-append (λ (r : FileRow). length r.body + 32) before (row ∷ after),
+    sum_by-append (λ (r : FileRow). length r.body + 32) before (row' ∷ after),
+    sum_by-cons (λ (r : FileRow). length r.body + 32) row after,
+    sum_by-cons (λ (r : FileRow). length r.body + 32) row' after,
+  )
 
   inside_was : (directory : List ℕ) → IsIn directory row'.head.path → IsIn directory row.head.path
   inside_was directory inside = (inside.0, sym path ∙ inside.1)
@@ -182,11 +187,11 @@ edited_is content valid path change row found same after =
     (λ files. each_file (there.before ++ change row ∷ there.after) (subst (λ (rows : List FileRow). AllByRecursion IsFile (heads_of rows)) there.is files.files.each))
     after.system in
     ((each_right (λ r. IsFile r.head) there.before (change row ∷ there.after) each).0, omega (arith, after.quota, taken, ap use_of there.was, ap use_of there.is))
-    where
-      no_rows : (before : List FileRow) (x : FileRow) (after : List FileRow) → before ++ x ∷ after ≡ [] → ⊥
-      no_rows [] x after e = cc
-      no_rows (y ∷ before) x after e = cc
+  where
+    no_rows : (before : List FileRow) (x : FileRow) (after : List FileRow) → before ++ x ∷ after ≡ [] → ⊥
+    no_rows [] x after e = cc
+    no_rows (y ∷ before) x after e = cc
 
-      each_file : (rows : List FileRow) → AllByRecursion IsFile (heads_of rows) → AllByRecursion (λ r. IsFile r.head) rows
-      each_file [] each = tt
-      each_file (r ∷ rows) each = (each.0, each_file rows each.1)
+    each_file : (rows : List FileRow) → AllByRecursion IsFile (heads_of rows) → AllByRecursion (λ r. IsFile r.head) rows
+    each_file [] each = tt
+    each_file (r ∷ rows) each = (each.0, each_file rows each.1)

@@ -69,7 +69,7 @@ module _ (test : FileHead → Bool) (closed : (directory file : FileHead) → Ho
       let rest : StandInEarlier (filter test earlier ++ filter test (file ∷ [])) (filter test heads) =
       subst (λ (es : List FileHead). StandInEarlier es (filter test heads)) (filter_push earlier file) (stand_filter (earlier ++ file ∷ []) heads stand.1) in
       let step : (b : Bool) → test file ≡ b → StandInEarlier (filter test earlier ++ cond b (file ∷ []) []) (filter test heads)
-          → StandInEarlier (filter test earlier) (cond b (file ∷ filter test heads) (filter test heads))
+      → StandInEarlier (filter test earlier) (cond b (file ∷ filter test heads) (filter test heads))
       = λ b. elim b as (λ b. test file ≡ b → StandInEarlier (filter test earlier ++ cond b (file ∷ []) []) (filter test heads) → StandInEarlier (filter test earlier) (cond b (file ∷ filter test heads) (filter test heads))) [
         | true ↦ λ e later. (any_filter (λ directory. Holds directory file) test earlier (λ directory holds. closed directory file holds e) stand.0, later)
         | false ↦ λ e later. subst (λ (es : List FileHead). StandInEarlier es (filter test heads)) (append-nil (filter test earlier)) later

@@ -15,7 +15,7 @@ use Rattle.file_rows.specs.declared.row.FileRow.{FileRow}
 abbrev pub written : ℕ → List ℕ → List ℕ → List ℕ
 written offset bytes body = take offset body ++ bytes ++ drop (offset + length bytes) body
 
--- a body with this record: in its place, or as number 0 in front, where the last record goes
+-- a body with this record: in its place, or as number 0 before the others, of which the last goes
 abbrev pub with_record : ℕ → List ℕ → List ℕ → List ℕ
 with_record zero bytes body = bytes ++ take (length body - length bytes) body
 with_record (suc before) bytes body = written (before * length bytes) bytes body
@@ -30,7 +30,8 @@ new_file head = record { head = head; body = replicate head.size 255 }
 
 -- the files, with the one of that path changed
 abbrev pub with_file : List ℕ → (FileRow → FileRow) → List FileRow → List FileRow
-with_file path change rows = map (λ row. if same_path row.head.path path then change row else row) rows
+with_file path change rows = map
+    (λ row. if same_path row.head.path path then change row else row) rows
 
 abbrev pub with_body : (List ℕ → List ℕ) → FileRow → FileRow
 with_body change row = record { head = row.head; body = change row.body }
@@ -68,8 +69,10 @@ changed content (FileGone path) =
       rows = filter (λ row. not (stands_below path row.head.path)) content.rows;
       pins = filter (λ pin. not (stands_below path pin.home)) content.pins;
     }
-changed content (FileState path life) = record content { rows = with_file path (with_life life) content.rows }
-changed content (FileSize path size) = record content { rows = with_file path (with_size size) content.rows }
+changed content (FileState path life) = record content
+    { rows = with_file path (with_life life) content.rows }
+changed content (FileSize path size) = record content
+    { rows = with_file path (with_size size) content.rows }
 
 -- the bytes are a record, and take the place of one or, as number 0, come into a cyclic file
 pub record IsRecordFor (row : FileRow) (number : ℕ) (bytes : List ℕ) : Type 0 where

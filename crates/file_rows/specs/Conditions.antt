@@ -17,18 +17,21 @@ use Rattle.file_rows.specs.declared.row.FileRow.{FileRow}
 
 -- the file is there, and the bytes lie inside its body
 abbrev pub IsInsideBody : List FileRow → List ℕ → ℕ → List ℕ → Type 0
-IsInsideBody rows path offset bytes = IsSomeAnd (file_at path rows) (λ row. offset + length bytes ≤ length row.body)
+IsInsideBody rows path offset bytes = IsSomeAnd (file_at path rows)
+    (λ row. offset + length bytes ≤ length row.body)
 
 -- the file is there, and the bytes are a record for it
 abbrev pub IsRecordOf : List FileRow → List ℕ → ℕ → List ℕ → Type 0
-IsRecordOf rows path number bytes = IsSomeAnd (file_at path rows) (λ row. IsRecordFor row number bytes)
+IsRecordOf rows path number bytes = IsSomeAnd (file_at path rows)
+    (λ row. IsRecordFor row number bytes)
 
 -- the PIN is there, and the new one has the form of a PIN
 pub record IsPinOf (pins : List PinRow) (set : PinRow) : Type 0 where
   pub there : Any (λ pin. KeepsPin pin set) pins
   pub form : IsPin set
 
--- the file has a form, a directory, and a path, an SFI and a name of its own, and isn't a second MF; the quota has room
+-- the file has a form, a directory, and a path, an SFI and a name of its own, and isn't a second
+-- MF; the quota has room
 pub record IsNewFile (rows : List FileRow) (head : FileHead) : Type 0 where
   pub form : IsFile head
   pub below : head.kind ≢ Master

@@ -25,13 +25,15 @@ file_at path rows = find (λ row. same_path row.head.path path) rows
 -- each file stands in a directory that was there before it
 abbrev pub StandInEarlier : List FileHead → List FileHead → Type 0
 StandInEarlier earlier [] = ⊤
-StandInEarlier earlier (head ∷ heads) = Any (λ directory. Holds directory head) earlier × StandInEarlier (earlier ++ head ∷ []) heads
+StandInEarlier earlier (head ∷ heads) = Any (λ directory. Holds directory head) earlier
+    × StandInEarlier (earlier ++ head ∷ []) heads
 
 -- the MF is the first file, no other is one, and each other stands in an earlier directory
 abbrev pub AreTree : List FileHead → Type 0
 AreTree [] = ⊥
 AreTree (first ∷ heads) =
-    (first.kind ≡ Master) × AllByRecursion (λ head. head.kind ≢ Master) heads × StandInEarlier (first ∷ []) heads
+    (first.kind ≡ Master) × AllByRecursion (λ head. head.kind ≢ Master) heads
+    × StandInEarlier (first ∷ []) heads
 
 -- the files of a card
 pub record AreFiles (rows : List FileRow) : Type 0 where

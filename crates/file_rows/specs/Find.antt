@@ -17,13 +17,16 @@ file_of_path rows path = option_and_then (λ path. file_at path rows) path
 
 -- a file in a directory by its identifier, with which no application is found
 abbrev pub child : List FileRow → List ℕ → ℕ → Option FileRow
-child rows directory id = only (λ row. not (is_application row.head.kind)) (file_at (directory ++ id ∷ []) rows)
+child rows directory id = only
+    (λ row. not (is_application row.head.kind)) (file_at (directory ++ id ∷ []) rows)
 
 -- the file in a directory with this SFI; 0 is none
 abbrev pub child_with_sfi : List FileRow → List ℕ → ℕ → Option FileRow
 child_with_sfi rows directory sfi =
-    if sfi == 0 then None else find (λ row. is_in directory row.head.path && (row.head.sfi == sfi)) rows
+    if sfi == 0 then None else find
+    (λ row. is_in directory row.head.path && (row.head.sfi == sfi)) rows
 
 -- the first application, in the order of creation, whose name begins so
 abbrev pub application_named : List ℕ → List FileRow → Option FileRow
-application_named prefix rows = find (λ row. is_application row.head.kind && starts_with nat_eq row.head.name prefix) rows
+application_named prefix rows = find
+    (λ row. is_application row.head.kind && starts_with nat_eq row.head.name prefix) rows

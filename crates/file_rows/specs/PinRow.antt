@@ -2,7 +2,8 @@ use Rattle.std.specs.Prelude.{ℕ, ◌≡◌, ◌≢◌, ◌≤◌, ◌⊎◌, I
 use Rattle.file_rows.specs.Path.{master}
 use Rattle.file_rows.specs.declared.pin.PinRow.{PinRow}
 
--- the key references of the PINs at home in the MF (ETSI TS 102 221, global key references and ADM1 to ADM5)
+-- the key references of the PINs at home in the MF (ETSI TS 102 221, global key references and ADM1
+-- to ADM5)
 abbrev pub IsGlobalKey : ℕ → Type 0
 IsGlobalKey key = ((1 ≤ key) × (key ≤ 8)) ⊎ (((10 ≤ key) × (key ≤ 14)) ⊎ (key ≡ 17))
 

@@ -15,7 +15,8 @@ pub enum Change {
         offset: u16,
         bytes: Piece,
     },
-    /// A whole record, counted from 1. The number 0 makes the bytes record 1 of a cyclic file, and its last record goes.
+    /// A whole record, counted from 1. The number 0 makes the bytes record 1 of a cyclic file, and
+    /// its last record goes.
     WriteRecord {
         path: Path,
         number: u8,
@@ -46,7 +47,7 @@ pub enum Change {
 }
 
 impl Change {
-    /// The same change once more. It takes no memory.
+    /// A copy of the change. It takes no memory.
     pub fn copy(&self) -> Self
         ensures { result ≡ self.now }
     {

@@ -132,7 +132,8 @@ fn with_file(
     path: &Path,
     change: &Change,
 ) -> Result<Vec<FileRow>, NoMemory>
-    ensures { IfOk result (λ after. after.items ≡ with_file path.now (file_after change.now) rows.now) }
+    ensures { IfOk result
+        (λ after. after.items ≡ with_file path.now (file_after change.now) rows.now) }
 {
     let mut after = Vec::with_capacity(alloc, rows.len())?;
     for row in rows {
@@ -202,7 +203,10 @@ fn with_pin(alloc: Global, set: &PinRow, pins: &[PinRow]) -> Result<Vec<PinRow>,
 impl Content {
     fn with_file(&self, path: &Path, change: &Change) -> Result<Content, NoMemory>
         ensures { IfOk result (λ after.
-            after ≡ record self.now { rows = with_file path.now (file_after change.now) self.now.rows }) }
+            after ≡ record self.now {
+              rows = with_file path.now (file_after change.now)
+                  self.now.rows;
+            }) }
     {
         let rows = with_file(self.rows.allocator(), self.rows.as_slice(), path, change)?;
         let pins = copy_pins(self.pins.allocator(), self.pins.as_slice())?;
@@ -213,7 +217,8 @@ impl Content {
     }
 
     fn with_pin(&self, set: &PinRow) -> Result<Content, NoMemory>
-        ensures { IfOk result (λ after. after ≡ record self.now { pins = with_pin set.now self.now.pins }) }
+        ensures { IfOk result
+            (λ after. after ≡ record self.now { pins = with_pin set.now self.now.pins }) }
     {
         let mut after = self.copy()?;
         let pins = with_pin(self.pins.allocator(), set, self.pins.as_slice())?;

@@ -8,7 +8,7 @@ use std::alloc::Global;
 /// How many bytes the files of a profile may take, each counting its body and 32 bytes more.
 pub const QUOTA: u32 = 65_536;
 
-/// What a card holds: its files, in the order in which they were made, and its PINs.
+/// What a card holds: its files, in the order of creation, and its PINs.
 #[derive(Debug, Drop)]
 pub struct Content {
     pub rows: LongList<FileRow>,
@@ -37,7 +37,7 @@ fn copy_rows(alloc: Global, rows: &[FileRow]) -> Result<Vec<FileRow>, NoMemory>
     Ok(copies)
 }
 
-/// The same PINs once more.
+/// A copy of the PINs.
 pub fn copy_pins(alloc: Global, pins: &[PinRow]) -> Result<Vec<PinRow>, NoMemory>
     ensures { IfOk result (λ copies. copies.items ≡ pins.now) }
 {
@@ -49,7 +49,7 @@ pub fn copy_pins(alloc: Global, pins: &[PinRow]) -> Result<Vec<PinRow>, NoMemory
 }
 
 impl Content {
-    /// The same content once more, on the allocators of its lists.
+    /// A copy of the content, on the allocators of its lists.
     pub fn copy(&self) -> Result<Self, NoMemory>
         ensures { IfOk result (λ content. content ≡ self.now) }
     {

@@ -33,7 +33,8 @@ pub fn has_directory(file: &FileHead, earlier: &[FileRow]) -> bool
 
 // Whether each file but the first stands in an earlier one.
 fn stand_in_earlier(rows: &[FileRow]) -> bool
-    ensures { IsTrue result ↔ StandInEarlier (heads_of (take 1 rows.now)) (heads_of (drop 1 rows.now)) }
+    ensures { IsTrue result
+        ↔ StandInEarlier (heads_of (take 1 rows.now)) (heads_of (drop 1 rows.now)) }
 {
     for index in 1..rows.len() {
         if !has_directory(&rows[index].head, &rows[..index]) {

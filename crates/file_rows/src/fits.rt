@@ -84,7 +84,8 @@ fn are_apart_from(rows: &[FileRow], file: &FileHead) -> bool
 fn is_size_for(row: &FileRow, size: u16, used: u32) -> bool
     requires { used ≤ QUOTA }
     ensures { IsTrue result
-        ↔ (IsFile (record row.now.head { size = size }) × (used + size ≤ QUOTA + row.now.head.size)) }
+        ↔ (IsFile (record row.now.head { size = size })
+        × (used + size ≤ QUOTA + row.now.head.size)) }
 {
     let mut head = row.head.copy();
     head.size = size;
@@ -144,9 +145,10 @@ impl Content {
         }
     }
 
-    /// Whether a change fits: it names what is there, and the content after it is valid. It takes no memory and doesn't
-    /// judge the whole content anew. A change of one file costs a look at the rows up to its own, one of its size the sum
-    /// of all bodies besides; a PIN costs a look at the PINs; a new file three passes over the rows.
+    /// Whether a change fits: it names what is there, and the content after it is valid. It takes
+    /// no memory and doesn't judge the whole content anew. A change of one file costs a look at the
+    /// rows up to its own, one of its size the sum of all bodies besides; a PIN costs a look at the
+    /// PINs; a new file three passes over the rows.
     pub fn fits(&self, change: &Change) -> bool
         requires { IsValid self.now }
         ensures { IsTrue result ↔ Fits self.now change.now }

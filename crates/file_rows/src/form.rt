@@ -10,7 +10,7 @@ pub fn is_in(directory: &[u16], file: &[u16]) -> bool
     ensures { IsTrue result ↔ IsIn directory.now file.now }
 {
     match file {
-        [front @ .., _] => front == directory,
+        [parent @ .., _] => parent == directory,
         [] => false,
     }
 }
@@ -52,7 +52,8 @@ fn is_transparent(head: &FileHead) -> bool
 // Whether a body of this size is 1 to 254 records.
 fn are_records(size: u16, record_len: u8) -> bool
     requires { 1 ≤ record_len }
-    ensures { IsTrue result ↔ ((count : ℕ) × (1 ≤ count) × (count ≤ 254) × (size ≡ count * record_len)) }
+    ensures { IsTrue result
+        ↔ ((count : ℕ) × (1 ≤ count) × (count ≤ 254) × (size ≡ count * record_len)) }
 {
     let length = u16::from(record_len);
     size % length == 0 && matches!(size / length, 1..=254)

@@ -4,7 +4,8 @@ ghost use Rattle.file_rows.specs.FileHead.{holds_files, is_application};
 use crate::Path;
 use plain_lists::ShortList;
 
-/// The name of an application (its AID, ETSI TS 101 220), of 5 to 16 bytes; other files have an empty one.
+/// The name of an application (its AID, ETSI TS 101 220), of 5 to 16 bytes; other files have an
+/// empty one.
 pub type Name = ShortList<u8, 16>;
 
 /// What a file is (ETSI TS 102 221).
@@ -48,7 +49,8 @@ pub enum Life {
     Terminated,
 }
 
-/// Where a file's access conditions stand: a record of an EF ARR, by the file's identifier and the record's number.
+/// Where a file's access conditions stand: a record of an EF ARR, by the file's identifier and the
+/// record's number.
 #[derive(Clone, Copy, Debug, PartialEq, Eq)]
 pub struct Rule {
     pub file: u16,
@@ -72,7 +74,7 @@ pub struct FileHead {
 }
 
 impl FileHead {
-    /// The same head once more. It takes no memory.
+    /// A copy of the head. It takes no memory.
     pub fn copy(&self) -> Self
         ensures { result ≡ self.now }
     {

@@ -1,4 +1,5 @@
-//! The contents of a card: its files (ETSI TS 102 221, ETSI TS 102 222) and PINs, and the changes that commands make.
+//! The contents of a card: its files (ETSI TS 102 221, ETSI TS 102 222) and PINs, and the changes
+//! that commands make.
 #![tactic(auto)]
 
 mod change;
@@ -19,7 +20,9 @@ mod valid;
 pub use change::{Change, Piece};
 pub use content::{Content, QUOTA, copy_pins, used};
 pub use head::{FileHead, Kind, Life, Name, Rule};
-pub use laws::{changes_are_local, changes_fit_by_kind, files_have_identifiers, one_file_has_an_sfi};
+pub use laws::{
+    changes_are_local, changes_fit_by_kind, files_have_identifiers, one_file_has_an_sfi,
+};
 pub use mode::Mode;
 pub use path::{CURRENT_APPLICATION_ID, MASTER_FILE_ID, Path, own_id, parent_of};
 pub use pin::{PinRow, Puk};

@@ -3,7 +3,8 @@ ghost use Rattle.file_rows.specs.Path.{own_id, parent_of};
 
 use plain_lists::ShortList;
 
-/// The identifiers from the MF down to a file; the MF itself has none. At most four (ETSI TS 102 221).
+/// The identifiers from the MF down to a file; the MF itself has none. At most four (ETSI TS 102
+/// 221).
 pub type Path = ShortList<u16, 4>;
 
 /// The file identifier of the MF (ETSI TS 102 221).
@@ -19,7 +20,8 @@ pub fn own_id(path: &Path) -> u16
     path.as_slice().last().copied().unwrap_or(MASTER_FILE_ID)
 }
 
-/// The path of the directory that holds the file at a path; nothing holds the MF. It takes no memory.
+/// The path of the directory that holds the file at a path; nothing holds the MF. It takes no
+/// memory.
 pub fn parent_of(path: &Path) -> Option<Path>
     ensures { result ≡ parent_of path.now }
 {

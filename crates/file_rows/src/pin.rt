@@ -10,8 +10,8 @@ pub struct Puk {
     pub left: u8,
 }
 
-/// A PIN (ETSI TS 102 221): its number in the content from 1, the file where it is at home, its key reference, its
-/// value, and its tries at most and left.
+/// A PIN (ETSI TS 102 221): its number in the content from 1, the file where it is at home, its key
+/// reference, its value, and its tries at most and left.
 #[derive(Debug, PartialEq, Eq, Drop)]
 pub struct PinRow {
     pub number: u8,
@@ -25,7 +25,7 @@ pub struct PinRow {
 }
 
 impl PinRow {
-    /// The same PIN once more. It takes no memory.
+    /// A copy of the PIN. It takes no memory.
     pub fn copy(&self) -> Self
         ensures { result ≡ self.now }
     {

@@ -84,7 +84,8 @@ fn is_formed(pin: &PinRow, rows: &[FileRow]) -> bool
 }
 
 fn are_formed(pins: &[PinRow], rows: &[FileRow]) -> bool
-    ensures { IsTrue result ↔ AllByRecursion (λ pin. IsPin pin × IsAtHome (heads_of rows.now) pin) pins.now }
+    ensures { IsTrue result
+        ↔ AllByRecursion (λ pin. IsPin pin × IsAtHome (heads_of rows.now) pin) pins.now }
 {
     for pin in pins {
         if !is_formed(pin, rows) {

@@ -11,7 +11,7 @@ pub struct FileRow {
 }
 
 impl FileRow {
-    /// The same file once more, on the allocator of its body.
+    /// A copy of the file, on the allocator of its body.
     pub fn copy(&self) -> Result<Self, NoMemory>
         ensures { IfOk result (λ row. row ≡ self.now) }
     {

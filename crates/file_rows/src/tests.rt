@@ -1,4 +1,6 @@
 //! What files take of the quota, and each copy once.
+mod changes;
+
 use super::*;
 use plain_lists::LongList;
 use std::alloc::{AllocError, Global};
@@ -100,7 +102,6 @@ fn a_copy_of_a_change_is_that_change(rt: HostRuntime) -> Result<(), Fail> {
     for change in &changes {
         assert_eq!(rt; change.copy(), *change);
     }
-    changes_are_local();
     Ok(())
 }
 

@@ -36,9 +36,10 @@ impl Content {
         are_files(rows) && are_pins(self.pins.as_slice(), rows)
     }
 
-    /// Whether a card may hold it: its files within the quota, at most 32 PINs, each file and PIN of the form that
-    /// ETSI TS 102 221 gives it, and no two of one path, SFI, name, number or key where there may be one. It takes no
-    /// memory, and its time grows with the square of the number of files.
+    /// Whether a card may hold it: its files within the quota, at most 32 PINs, each file and PIN
+    /// of the form that ETSI TS 102 221 gives it, and no two of one path, SFI, name, number or key
+    /// where there may be one. It takes no memory, and its time grows with the square of the number
+    /// of files.
     pub fn is_valid(&self) -> bool
         ensures { IsTrue result ↔ IsValid self.now }
     {

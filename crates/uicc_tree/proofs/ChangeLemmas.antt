@@ -74,7 +74,7 @@ module _ (old new : Arena) (node : ℕ) (path : List ℕ) (change : FileRow → 
     child_list = λ n there.
         arena.tree.child_list n there
         ∙ filter-same (λ child. is_in (path_of (files_of old) n) (path_of (files_of old) child)) (λ child. is_in (path_of tree n) (path_of tree child)) (files_of old).nodes
-            (λ child too. ap (λ (p : List ℕ). is_in p (path_of (files_of old) child)) (sym (path_same n)) ∙ ap (is_in (path_of tree n)) (sym (path_same child)));
+        (λ child too. ap (λ (p : List ℕ). is_in p (path_of (files_of old) child)) (sym (path_same n)) ∙ ap (is_in (path_of tree n)) (sym (path_same child)));
   }
 
   pub nodes_same : (files_of new).nodes ≡ (files_of old).nodes

@@ -9,12 +9,12 @@ pub filter_from_turns : {X S : Type 0} (R : S → X → Bool → S → X → Typ
     → (xs ys : List X) → RetainsInTurn R s xs ys → ys ≡ filter test xs
 filter_from_turns R test s says [] ys turns = turns
 filter_from_turns {X} {S} R test s says (x ∷ xs) ys turns =
-    let told = says x turns.0 turns.1 turns.2 turns.3 in
+    let says_so = says x turns.0 turns.1 turns.2 turns.3 in
     let rest : turns.4 ≡ filter test xs =
-    filter_from_turns R test s says xs turns.4 (subst (λ (t : S). RetainsInTurn R t xs turns.4) told.2 turns.5) in
+    filter_from_turns R test s says xs turns.4 (subst (λ (t : S). RetainsInTurn R t xs turns.4) says_so.2 turns.5) in
     turns.6
-    ∙ ap (λ (b : Bool). cond b (turns.2 ∷ turns.4) turns.4) told.0
-    ∙ ap (λ (y : X). cond (test x) (y ∷ turns.4) turns.4) told.1
+    ∙ ap (λ (b : Bool). cond b (turns.2 ∷ turns.4) turns.4) says_so.0
+    ∙ ap (λ (y : X). cond (test x) (y ∷ turns.4) turns.4) says_so.1
     ∙ ap (λ (zs : List X). cond (test x) (x ∷ zs) zs) rest
 
 module _ {X : Type 0} where

@@ -49,8 +49,8 @@ module _ {X Y : Type 0} where
       = λ b. elim b as (λ b. (c : Bool) → keep x ≡ b → test (f x) ≡ c → find test (map f (cond b (x ∷ filter keep xs) (filter keep xs))) ≡ cond c (Some (f x)) (find test (map f xs))) [
         | true ↦ λ c on e. ap (λ (b : Bool). cond b (Some (f x)) (find test (map f (filter keep xs)))) e ∙ ap (cond c (Some (f x))) rest
         | false ↦ λ c. elim c as (λ c. keep x ≡ false → test (f x) ≡ c → find test (map f (filter keep xs)) ≡ cond c (Some (f x)) (find test (map f xs))) [
-            | true ↦ λ off e. absurd (true≢false (sym (kept x (contains_first x xs) e) ∙ off))
-            | false ↦ λ off e. rest
-          ]
+          | true ↦ λ off e. absurd (true≢false (sym (kept x (contains_first x xs) e) ∙ off))
+          | false ↦ λ off e. rest
+        ]
       ]
       in step (keep x) (test (f x)) refl refl

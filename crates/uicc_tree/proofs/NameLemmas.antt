@@ -46,10 +46,10 @@ pub named_in_master : (tree : Files) (children : List (List ℕ)) → IsTree tre
 named_in_master tree children is either prefix root live at items listed =
     ap (λ (ns : List ℕ). find (is_named prefix) (map (file_of tree) ns)) (listed ∙ is.child_list root live ∙ ap (children_in tree) at)
     ∙ find-filter (file_of tree) (is_named prefix) (λ node. is_in master (path_of tree node)) tree.nodes
-        (λ node there named.
-        let both = both_hold (is_application (file_of tree node).head.kind) (starts_with nat_eq (file_of tree node).head.name prefix) named in
-        let file : IsFile (file_of tree node).head = ⊎_elim
-        (λ files. file_at_node (file_of tree) tree.nodes node files.each there)
-        (λ none. absurd (nothing_there (file_of tree) tree.nodes node none there))
-        either in
-        (is_in-is master (path_of tree node)).1 (application_inside (file_of tree node).head.kind (file_of tree node).head both.0 file.form))
+    (λ node there named.
+    let both = both_hold (is_application (file_of tree node).head.kind) (starts_with nat_eq (file_of tree node).head.name prefix) named in
+    let file : IsFile (file_of tree node).head = ⊎_elim
+    (λ files. file_at_node (file_of tree) tree.nodes node files.each there)
+    (λ none. absurd (nothing_there (file_of tree) tree.nodes node none there))
+    either in
+    (is_in-is master (path_of tree node)).1 (application_inside (file_of tree node).head.kind (file_of tree node).head both.0 file.form))

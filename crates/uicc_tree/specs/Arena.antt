@@ -11,7 +11,12 @@ cell_of slot = record { head = slot.head; body = slot.body.items }
 
 -- the files that an arena holds
 abbrev pub files_of : Arena → Files
-files_of arena = record { nodes = arena.order.items; cells = map cell_of arena.slots.items; room = Nothing }
+files_of arena = record {
+  nodes = arena.order.items;
+  cells = map cell_of arena.slots.items;
+  room =
+      Nothing;
+}
 
 -- the children of each node
 abbrev pub children_of : Arena → List (List ℕ)
@@ -30,11 +35,14 @@ pub record IsTree (tree : Files) (children : List (List ℕ)) : Type 0 where
   -- the first file is the MF
   pub root : (node : ℕ) → slice_get tree.nodes 0 ≡ Some node → path_of tree node ≡ master
   -- each file stands in another one
-  pub closed : (node : ℕ) (directory : List ℕ) (id : ℕ) → IsLive tree node → path_of tree node ≡ directory ++ id ∷ []
+  pub closed : (node : ℕ) (directory : List ℕ) (id : ℕ) → IsLive tree node
+      → path_of tree node ≡ directory ++ id ∷ []
       → (above : ℕ) × IsLive tree above × (path_of tree above ≡ directory)
-  pub distinct : (one other : ℕ) → IsLive tree one → IsLive tree other → path_of tree one ≡ path_of tree other → one ≡ other
+  pub distinct : (one other : ℕ) → IsLive tree one → IsLive tree other
+      → path_of tree one ≡ path_of tree other → one ≡ other
   -- each node lists the files in it, in the order of creation
-  pub child_list : (node : ℕ) → IsLive tree node → children_at children node ≡ children_in tree (path_of tree node)
+  pub child_list : (node : ℕ) → IsLive tree node
+      → children_at children node ≡ children_in tree (path_of tree node)
 
 -- whether each node is that of a file
 abbrev pub marks_of : Arena → List Bool
@@ -51,7 +59,8 @@ pub record IsArena (arena : Arena) : Type 0 where
 -- a file of this path stands in one of the tree, or alone as its MF
 abbrev pub HasDirectory : Files → List ℕ → Type 0
 HasDirectory tree path =
-    ((tree.nodes ≡ []) × (path ≡ master)) ⊎ ((above : ℕ) × IsLive tree above × IsIn (path_of tree above) path)
+    ((tree.nodes ≡ []) × (path ≡ master))
+    ⊎ ((above : ℕ) × IsLive tree above × IsIn (path_of tree above) path)
 
 -- this is the node of the file in which it stands, and none for the MF
 abbrev pub StandsIn : Files → List ℕ → Option ℕ → Type 0
@@ -64,7 +73,8 @@ pub record CanStand (tree : Files) (path : List ℕ) (directory : Option ℕ) : 
   pub place : StandsIn tree path directory
 
 -- the new tree has one more node, which is a child of the directory, and all else as the old one
-pub record AddsNode (old new : Files) (were are : List (List ℕ)) (node : ℕ) (row : FileRow) (directory : Option ℕ) : Type 0 where
+pub record AddsNode (old new : Files) (were are : List (List ℕ)) (node : ℕ) (row : FileRow)
+    (directory : Option ℕ) : Type 0 where
   pub nodes : new.nodes ≡ old.nodes ++ node ∷ []
   pub in_range : (other : ℕ) → IsLive new other → other < length new.cells
   pub fresh : ¬ IsLive old node
@@ -73,33 +83,38 @@ pub record AddsNode (old new : Files) (were are : List (List ℕ)) (node : ℕ) 
   pub alone : children_at are node ≡ []
   pub named : (above : ℕ) → IsLive old above → directory ≡ Some above
       → children_at are above ≡ children_at were above ++ node ∷ []
-  pub others : (other : ℕ) → IsLive old other → directory ≢ Some other → children_at are other ≡ children_at were other
+  pub others : (other : ℕ) → IsLive old other → directory ≢ Some other
+      → children_at are other ≡ children_at were other
 
 -- the node is that of no file
-abbrev pub IsVacant : Arena → ℕ → Type 0
-IsVacant arena node = (node < length arena.slots.items) × (mark_at (marks_of arena) node ≡ false)
+abbrev pub IsFree : Arena → ℕ → Type 0
+IsFree arena node = (node < length arena.slots.items) × (mark_at (marks_of arena) node ≡ false)
 
 -- there is a node for one more file
 abbrev pub HasNode : Arena → Type 0
-HasNode arena = ((node : ℕ) × IsVacant arena node)
-    ⊎ ((length arena.slots.items < vec_capacity arena.slots) × (length arena.slots.items + 1 < 2 ^ 32))
+HasNode arena = ((node : ℕ) × IsFree arena node)
+    ⊎ ((length arena.slots.items < vec_capacity arena.slots)
+    × (length arena.slots.items + 1 < 2 ^ 32))
 
 -- memory for one more child of each node
 abbrev pub child_room_of : Arena → List Bool
-child_room_of arena = map (λ slot. nat_lt (length slot.children.items) slot.children.capacity) arena.slots.items
+child_room_of arena = map
+    (λ slot. nat_lt (length slot.children.items) slot.children.capacity) arena.slots.items
 
 -- there is a node, and memory to name it, for one more file in the directory
 pub record HasPlace (arena : Arena) (directory : Option ℕ) : Type 0 where
   pub node : HasNode arena
   pub order : length arena.order.items < vec_capacity arena.order
-  pub child : (above : ℕ) → directory ≡ Some above → IsTrue (slice_index_or (child_room_of arena) above false)
+  pub child : (above : ℕ) → directory ≡ Some above
+      → IsTrue (slice_index_or (child_room_of arena) above false)
 
 -- the new arena has one more node, which is in no list of children, and all else as the old one
 pub record Stores (old new : Arena) (slot : Slot) (node : ℕ) : Type 0 where
   pub nodes : new.order.items ≡ old.order.items ++ node ∷ []
   pub fresh : ¬ IsLive (files_of old) node
   pub stored : slice_get new.slots.items node ≡ Some slot
-  pub others : (other : ℕ) → other ≢ node → slice_get new.slots.items other ≡ slice_get old.slots.items other
+  pub others : (other : ℕ) → other ≢ node
+      → slice_get new.slots.items other ≡ slice_get old.slots.items other
   pub few : length new.slots.items < 2 ^ 32
 
 -- the files, with another one at a node

@@ -19,7 +19,8 @@ rows_after rows change = (changed (record { rows = rows; pins = [] }) change).ro
 
 -- the change fits a content of these files
 abbrev pub FitsFiles : Files → Change → Type 0
-FitsFiles tree change = (pins : List PinRow) × Fits (record { rows = rows_of tree; pins = pins }) change
+FitsFiles tree change = (pins : List PinRow)
+    × Fits (record { rows = rows_of tree; pins = pins }) change
 
 -- the memory that the change needs is reserved
 abbrev pub HasRoom : Files → Change → Type 0
@@ -27,7 +28,8 @@ HasRoom tree (WriteRange path offset bytes) = ⊤
 HasRoom tree (WriteRecord path number bytes) = ⊤
 HasRoom tree (PinSet set) = ⊤
 HasRoom tree (FileAdd head) =
-    (directory : Option ℕ) × StandsIn tree head.path directory × (tree.room ≡ Add directory head.size)
+    (directory : Option ℕ) × StandsIn tree head.path directory
+    × (tree.room ≡ Add directory head.size)
 HasRoom tree (FileGone path) = ⊤
 HasRoom tree (FileState path life) = ⊤
 HasRoom tree (FileSize path size) =

@@ -1,5 +1,5 @@
 ghost use Rattle.std.specs.Prelude.{◌≡◌, ◌≢◌, ℕ, ◌<◌, List, [], ◌∷◌, ◌++◌, length, Contains, IfSome, IfNone, IsTrue, OnOk, ◌↔◌, ◌&&◌, ◌+◌, ◌^◌, ◌⊎◌, false, nat_eq, Some, None, vec_capacity, slice_get, slice_set, slice_index_or};
-ghost use Rattle.uicc_tree.specs.Arena.{files_of, children_of, children_at, child_room_of, marks_of, CanStand, HasDirectory, HasNode, HasPlace, IsArena, IsVacant, StandsIn, Stores};
+ghost use Rattle.uicc_tree.specs.Arena.{files_of, children_of, children_at, child_room_of, marks_of, CanStand, HasDirectory, HasNode, HasPlace, IsArena, IsFree, StandsIn, Stores};
 ghost use Rattle.std.specs.List.{starts_with};
 ghost use Rattle.file_rows.specs.Content.{file_at};
 ghost use Rattle.file_rows.specs.FileHead.{is_application};
@@ -25,7 +25,8 @@ pub struct Slot {
     pub live: bool,
 }
 
-// Nodes, named by their places in `slots`, and those of them that are files, in the order in which they were made.
+// Nodes, named by their places in `slots`, and those of them that are files, in the order in which
+// they were made.
 #[derive(Debug, Drop)]
 pub struct Arena {
     pub slots: Vec<Slot>,
@@ -85,7 +86,9 @@ impl Arena {
     // The node of the MF, where there are files.
     fn master(&self) -> Option<u32>
         requires { IsArena self.now }
-        ensures found { IfSome result (λ node. IsLive (files_of self.now) node × (path_of (files_of self.now) node ≡ master)) }
+        ensures found { IfSome result
+            (λ node. IsLive (files_of self.now) node
+            × (path_of (files_of self.now) node ≡ master)) }
         ensures none { IfNone result ((files_of self.now).nodes ≡ []) }
     {
         self.order.first().copied()
@@ -99,8 +102,10 @@ impl Arena {
             × (path_of (files_of self.now) child ≡ path_of (files_of self.now) node ++ id ∷ [])) }
         ensures none { IfNone result ((child : ℕ) → IsLive (files_of self.now) child
             → path_of (files_of self.now) child ≢ path_of (files_of self.now) node ++ id ∷ []) }
-        ensures node { IfSome result (IsNodeOf (files_of self.now) (path_of (files_of self.now) node ++ id ∷ [])) }
-        ensures no_file { IfNone result (file_at (path_of (files_of self.now) node ++ id ∷ []) (rows_of (files_of self.now)) ≡ None) }
+        ensures node { IfSome result (IsNodeOf (files_of self.now)
+            (path_of (files_of self.now) node ++ id ∷ [])) }
+        ensures no_file { IfNone result (file_at (path_of (files_of self.now) node ++ id
+            ∷ []) (rows_of (files_of self.now)) ≡ None) }
     {
         for child in self.children(node) {
             if ends_with(self.head(*child).path.as_slice(), id) {
@@ -113,8 +118,11 @@ impl Arena {
     // The node of the file of this path.
     pub fn find(&self, path: &[u16]) -> Option<u32>
         requires arena { IsArena self.now }
-        ensures found { IfSome result (λ node. IsLive (files_of self.now) node × (path_of (files_of self.now) node ≡ path.now)) }
-        ensures none { IfNone result ((node : ℕ) → IsLive (files_of self.now) node → path_of (files_of self.now) node ≢ path.now) }
+        ensures found { IfSome result
+            (λ node. IsLive (files_of self.now) node
+            × (path_of (files_of self.now) node ≡ path.now)) }
+        ensures none { IfNone result ((node : ℕ) → IsLive (files_of self.now) node
+            → path_of (files_of self.now) node ≢ path.now) }
         ensures node { IfSome result (IsNodeOf (files_of self.now) path.now) }
         ensures no_file { IfNone result (file_at path.now (rows_of (files_of self.now)) ≡ None) }
     {
@@ -129,8 +137,10 @@ impl Arena {
     pub fn child_with_sfi(&self, node: u32, sfi: u8) -> Option<u32>
         requires arena { IsArena self.now }
         requires live { IsLive (files_of self.now) node }
-        ensures found { IfSome result (HasSfi (files_of self.now) (path_of (files_of self.now) node) sfi) }
-        ensures none { IfNone result ((file : ℕ) → ¬ HasSfi (files_of self.now) (path_of (files_of self.now) node) sfi file) }
+        ensures found { IfSome result (HasSfi (files_of self.now)
+            (path_of (files_of self.now) node) sfi) }
+        ensures none { IfNone result ((file : ℕ)
+            → ¬ HasSfi (files_of self.now) (path_of (files_of self.now) node) sfi file) }
     {
         if sfi == 0 {
             return None;
@@ -147,7 +157,8 @@ impl Arena {
     pub fn application_named(&self, prefix: &[u8]) -> Option<u32>
         requires arena { IsArena self.now }
         requires rows { AreRows (rows_of (files_of self.now)) }
-        ensures { Gives (files_of self.now) result (application_named prefix.now (rows_of (files_of self.now))) }
+        ensures { Gives (files_of self.now) result
+            (application_named prefix.now (rows_of (files_of self.now))) }
     {
         let master = self.master()?;
         for child in self.children(master) {
@@ -169,10 +180,10 @@ impl Arena {
     }
 
     // A node that is that of no file.
-    fn vacant(&self) -> Option<u32>
+    fn free_node(&self) -> Option<u32>
         requires { length self.now.slots.items < 2 ^ 32 }
-        ensures found { IfSome result (IsVacant self.now) }
-        ensures none { IfNone result ((node : ℕ) → ¬ IsVacant self.now node) }
+        ensures found { IfSome result (IsFree self.now) }
+        ensures none { IfNone result ((node : ℕ) → ¬ IsFree self.now node) }
     {
         for (node, slot) in self.slots.iter().enumerate() {
             if !slot.live {
@@ -188,7 +199,8 @@ impl Arena {
         ensures files { files_of self.new ≡ files_of self.old }
         ensures children { children_of self.new ≡ children_of self.old }
         ensures marks { marks_of self.new ≡ marks_of self.old }
-        ensures slots { (length self.new.slots.items ≡ length self.old.slots.items) × (vec_capacity self.new.slots ≡ vec_capacity self.old.slots) }
+        ensures slots { (length self.new.slots.items ≡ length self.old.slots.items)
+            × (vec_capacity self.new.slots ≡ vec_capacity self.old.slots) }
         ensures order { self.new.order ≡ self.old.order }
         ensures ok { OnOk result (IsTrue (slice_index_or (child_room_of self.new) directory false)) }
     {
@@ -206,7 +218,7 @@ impl Arena {
         ensures few { length self.new.slots.items < 2 ^ 32 }
         ensures ok { OnOk result (HasPlace self.new directory) }
     {
-        if self.vacant().is_none() {
+        if self.free_node().is_none() {
             if self.slots.len() >= MOST_NODES {
                 return Err(AllocError);
             }
@@ -226,10 +238,11 @@ impl Arena {
         ensures order { self.new.order ≡ self.old.order }
         ensures fresh { ¬ IsLive (files_of self.old) result }
         ensures stored { slice_get self.new.slots.items result ≡ Some slot }
-        ensures others { (n : ℕ) → n ≢ result → slice_get self.new.slots.items n ≡ slice_get self.old.slots.items n }
+        ensures others { (n : ℕ) → n ≢ result
+            → slice_get self.new.slots.items n ≡ slice_get self.old.slots.items n }
         ensures few { length self.new.slots.items < 2 ^ 32 }
     {
-        if let Some(node) = self.vacant() {
+        if let Some(node) = self.free_node() {
             self.slots[node as usize] = slot;
             return node;
         }
@@ -250,12 +263,14 @@ impl Arena {
         node
     }
 
-    // Names a node as a child of another one.
-    fn hang(&mut self, directory: u32, node: u32)
+    // Appends a node to the children of another one.
+    fn append_child(&mut self, directory: u32, node: u32)
         requires within { directory < length self.old.slots.items }
         requires room { IsTrue (slice_index_or (child_room_of self.old) directory false) }
         ensures files { files_of self.new ≡ files_of self.old }
-        ensures children { children_of self.new ≡ slice_set (children_of self.old) directory (children_at (children_of self.old) directory ++ node ∷ []) }
+        ensures children { children_of self.new
+            ≡ slice_set (children_of self.old) directory
+            (children_at (children_of self.old) directory ++ node ∷ []) }
         ensures marks { marks_of self.new ≡ marks_of self.old }
         ensures few { length self.new.slots.items ≡ length self.old.slots.items }
     {
@@ -269,9 +284,11 @@ impl Arena {
         requires stands { CanStand (files_of self.old) head.path directory }
         requires room { HasPlace self.old directory }
         ensures arena { IsArena self.new }
-        ensures rows { rows_of (files_of self.new) ≡ rows_of (files_of self.old) ++ record { head = head; body = body.items } ∷ [] }
+        ensures rows { rows_of (files_of self.new) ≡ rows_of (files_of self.old)
+            ++ record { head = head; body = body.items } ∷ [] }
         ensures stay { (node : ℕ) → IsLive (files_of self.old) node
-            → IsLive (files_of self.new) node × (file_of (files_of self.new) node ≡ file_of (files_of self.old) node) }
+            → IsLive (files_of self.new) node
+            × (file_of (files_of self.new) node ≡ file_of (files_of self.old) node) }
     {
         let children = SmallVec::new(*self.order.allocator());
         let node = self.add(Slot {
@@ -281,7 +298,7 @@ impl Arena {
             live: true,
         });
         if let Some(above) = directory {
-            self.hang(above, node);
+            self.append_child(above, node);
         }
     }
 }

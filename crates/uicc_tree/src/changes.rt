@@ -15,9 +15,12 @@ impl Arena {
         requires fits { FitsFiles (files_of self.old) change.now }
         requires room { HasRoom (record (files_of self.old) { room = room }) change.now }
         ensures arena { IsArena self.new }
-        ensures rows { rows_of (files_of self.new) ≡ rows_after (rows_of (files_of self.old)) change.now }
-        ensures stay { (node : ℕ) → IsLive (files_of self.old) node → Outlives (path_of (files_of self.old) node) change.now
-            → IsLive (files_of self.new) node × (path_of (files_of self.new) node ≡ path_of (files_of self.old) node) }
+        ensures rows { rows_of (files_of self.new)
+            ≡ rows_after (rows_of (files_of self.old)) change.now }
+        ensures stay { (node : ℕ) → IsLive (files_of self.old) node
+            → Outlives (path_of (files_of self.old) node) change.now
+            → IsLive (files_of self.new) node
+            × (path_of (files_of self.new) node ≡ path_of (files_of self.old) node) }
     {
         match change {
             Change::WriteRange {

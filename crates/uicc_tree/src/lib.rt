@@ -1,13 +1,13 @@
-//! The files of a card as a tree (ETSI TS 102 221, "Logical model"): look-ups by path, identifier, SFI and name, and
-//! the changes that commands make.
+//! The files of a card as a tree (ETSI TS 102 221, "Logical model"): look-ups by path, identifier,
+//! SFI and name, and the changes that commands make.
 #![tactic(auto)]
 
 mod arena;
 mod changes;
-mod edits;
+mod node_changes;
+mod path_changes;
 mod removal;
 mod room;
-mod steps;
 mod tree;
 
 pub use tree::Tree;

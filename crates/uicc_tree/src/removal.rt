@@ -34,7 +34,8 @@ fn is_live(slots: &[Slot], node: u32) -> bool
 
 // Leaves out the nodes that are no longer those of files.
 fn leave_out_dead(order: &mut Vec<u32>, slots: &[Slot])
-    ensures { order.new.items ≡ filter (mark_at (map (λ slot. slot.live) slots.now)) order.old.items }
+    ensures { order.new.items
+        ≡ filter (mark_at (map (λ slot. slot.live) slots.now)) order.old.items }
 {
     order.retain(|node| is_live(slots, *node));
 }
@@ -54,7 +55,8 @@ fn prune(slot: &mut Slot, top: &[u16], gone: u32)
 
 impl Arena {
     fn prune_all(&mut self, top: &[u16], gone: u32)
-        ensures slots { ArePruned top.now gone self.old.slots.items self.new.slots.items (length self.old.slots.items) }
+        ensures slots { ArePruned top.now gone self.old.slots.items self.new.slots.items
+            (length self.old.slots.items) }
         ensures few { length self.new.slots.items ≡ length self.old.slots.items }
         ensures order { self.new.order ≡ self.old.order }
     {
@@ -69,9 +71,12 @@ impl Arena {
         requires live { IsLive (files_of self.old) gone }
         requires path { path_of (files_of self.old) gone ≡ top.now }
         ensures arena { IsArena self.new }
-        ensures rows { rows_of (files_of self.new) ≡ filter (λ row. not (stands_below top.now row.head.path)) (rows_of (files_of self.old)) }
-        ensures stay { (node : ℕ) → IsLive (files_of self.old) node → stands_below top.now (path_of (files_of self.old) node) ≡ false
-            → IsLive (files_of self.new) node × (file_of (files_of self.new) node ≡ file_of (files_of self.old) node) }
+        ensures rows { rows_of (files_of self.new) ≡ filter
+            (λ row. not (stands_below top.now row.head.path)) (rows_of (files_of self.old)) }
+        ensures stay { (node : ℕ) → IsLive (files_of self.old) node
+            → stands_below top.now (path_of (files_of self.old) node) ≡ false
+            → IsLive (files_of self.new) node
+            × (file_of (files_of self.new) node ≡ file_of (files_of self.old) node) }
     {
         self.prune_all(top, gone);
         leave_out_dead(&mut self.order, self.slots.as_slice());

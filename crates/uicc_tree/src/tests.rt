@@ -32,7 +32,10 @@ fn files_are_looked_up(rt: HostRuntime) -> Result<(), Fail> {
     let mf = tree.find(&[]).ok_or("an MF")?;
     let body = tree.find(&[0x2FE2]).ok_or("a file")?;
     assert_eq!(rt; tree.find(&[0x2FE2, 0x2FE2]), None);
-    assert_eq!(rt; tree.find_path(&Some(Path::from_slice(&[0x2FE2]))), Some(body));
+    assert_eq!(rt;
+        tree.find_path(&Some(Path::from_slice(&[0x2FE2]))),
+        Some(body)
+    );
     assert_eq!(rt; tree.find_path(&None), None);
     assert_eq!(rt; tree.child(mf, 0x2FE2), Some(body));
     assert_eq!(rt; tree.child(mf, 0x7FD0), None, "an application");

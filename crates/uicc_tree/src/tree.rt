@@ -66,14 +66,16 @@ impl Tree {
         })
     }
 
-    /// The node of the file at a path; the MF's is empty. It looks at the children of each file on the way.
+    /// The node of the file at a path; the MF's is empty. It looks at the children of each file on
+    /// the way.
     pub fn find(&self, path: &[u16]) -> Option<u32>
         ensures { Gives self.now result (file_at path.now (rows_of self.now)) }
     {
         self.arena.find(path)
     }
 
-    /// The node of the file at a path, where there is a path. It looks at the children of each file on the way.
+    /// The node of the file at a path, where there is a path. It looks at the children of each file
+    /// on the way.
     pub fn find_path(&self, path: &Option<Path>) -> Option<u32>
         ensures { Gives self.now result (file_of_path (rows_of self.now) path.now) }
     {
@@ -83,8 +85,8 @@ impl Tree {
         }
     }
 
-    /// The node of the file of this identifier in a directory, unless it is an application. It looks at the
-    /// directory's children.
+    /// The node of the file of this identifier in a directory, unless it is an application. It
+    /// looks at the directory's children.
     pub fn child(&self, node: u32, id: u16) -> Option<u32>
         requires { IsLive self.now node }
         ensures { Gives self.now result (child (rows_of self.now) (path_of self.now node) id) }
@@ -96,25 +98,30 @@ impl Tree {
         Some(child)
     }
 
-    /// The node of the file of this short file identifier, 1 to 30, in a directory. It looks at the directory's children.
+    /// The node of the file of this short file identifier, 1 to 30, in a directory. It looks at the
+    /// directory's children.
     pub fn by_sfi(&self, node: u32, sfi: u8) -> Option<u32>
         requires { IsLive self.now node }
-        ensures { Gives self.now result (child_with_sfi (rows_of self.now) (path_of self.now node) sfi) }
+        ensures { Gives self.now result
+            (child_with_sfi (rows_of self.now) (path_of self.now node) sfi) }
     {
         self.arena.child_with_sfi(node, sfi)
     }
 
-    /// The node of the first application, in the order of creation, whose name begins so. It looks at the MF's children.
+    /// The node of the first application, in the order of creation, whose name begins so. It looks
+    /// at the MF's children.
     pub fn by_name(&self, prefix: &[u8]) -> Option<u32>
         ensures { Gives self.now result (application_named prefix.now (rows_of self.now)) }
     {
         self.arena.application_named(prefix)
     }
 
-    /// The node of the directory in which a file stands; the MF stands in none. It goes down from the MF.
+    /// The node of the directory in which a file stands; the MF stands in none. It goes down from
+    /// the MF.
     pub fn parent(&self, node: u32) -> Option<u32>
         requires { IsLive self.now node }
-        ensures { Gives self.now result (file_of_path (rows_of self.now) (parent_of (path_of self.now node))) }
+        ensures { Gives self.now result
+            (file_of_path (rows_of self.now) (parent_of (path_of self.now node))) }
     {
         self.find_path(&parent_of(&self.head(node).path))
     }
@@ -135,8 +142,8 @@ impl Tree {
         self.arena.bytes(node)
     }
 
-    /// Takes the memory that `apply` needs for this change, in place of what was taken for an earlier new file or size.
-    /// Other changes than these two need none. Nothing else changes.
+    /// Takes the memory that `apply` needs for this change, in place of what was taken for an
+    /// earlier new file or size. Other changes than these two need none. Nothing else changes.
     pub fn reserve(&mut self, change: &Change) -> Result<(), NoMemory>
         requires { FitsFiles self.old change.now }
         ensures nodes { self.new.nodes ≡ self.old.nodes }
@@ -154,7 +161,8 @@ impl Tree {
         requires { HasDirectory self.old head.now.path }
         ensures nodes { self.new.nodes ≡ self.old.nodes }
         ensures cells { self.new.cells ≡ self.old.cells }
-        ensures room { OnOk result ((directory : Option ℕ) × StandsIn self.new head.now.path directory
+        ensures room { OnOk result ((directory : Option ℕ)
+            × StandsIn self.new head.now.path directory
             × (self.new.room ≡ Room.Add directory head.now.size)) }
     {
         self.room = Room::Nothing;
@@ -172,7 +180,8 @@ impl Tree {
         requires { IsSome (file_at path.now (rows_of self.old)) }
         ensures nodes { self.new.nodes ≡ self.old.nodes }
         ensures cells { self.new.cells ≡ self.old.cells }
-        ensures room { OnOk result ((node : ℕ) × IsLive self.new node × (path_of self.new node ≡ path.now)
+        ensures room { OnOk result ((node : ℕ) × IsLive self.new node
+            × (path_of self.new node ≡ path.now)
             × (self.new.room ≡ Room.Size node size)) }
     {
         self.room = Room::Nothing;
@@ -183,14 +192,16 @@ impl Tree {
         Ok(())
     }
 
-    /// Makes a change for which memory is reserved, and takes none itself. A write moves the bytes written alone, and a
-    /// new record of a cyclic file moves that file's body. A file that is added takes a node that was freed, where there
-    /// is one. A file that goes costs a look at each file.
+    /// Makes a change for which memory is reserved, and takes none itself. A write moves the bytes
+    /// written alone, and a new record of a cyclic file moves that file's body. A file that is
+    /// added takes a node that was freed, where there is one. A file that goes costs a look at each
+    /// file.
     pub fn apply(&mut self, change: &Change)
         requires fits { FitsFiles self.old change.now }
         requires room { HasRoom self.old change.now }
         ensures rows { rows_of self.new ≡ rows_after (rows_of self.old) change.now }
-        ensures stay { (node : ℕ) → IsLive self.old node → Outlives (path_of self.old node) change.now
+        ensures stay { (node : ℕ) → IsLive self.old node
+            → Outlives (path_of self.old node) change.now
             → IsLive self.new node × (path_of self.new node ≡ path_of self.old node) }
         ensures room { self.new.room ≡ Room.Nothing }
     {

@@ -1,4 +1,5 @@
-//! The files of the sample card and of a second profile with a USIM, made into trees and looked up throughout.
+//! The files of the sample card and of a second profile with a USIM, made into trees and looked up
+//! throughout.
 use super::entry::Entry;
 use super::sides::{is_found, made};
 use crate::Tree;
@@ -14,8 +15,8 @@ const IMSI: &[u8] = b"\x08\x09\x10\x10\x00\x00\x00\x00\x10";
 
 const USIM: &[u8] = b"\xA0\x00\x00\x00\x87\x10\x02\xFF\xFF\xFF\xFF\x89\x00\x00\x01\x00";
 
-// The records of an EF ARR, of 42 bytes each: read always and update with key 0A; read and update always; read and
-// update with key 01.
+// The records of an EF ARR, of 42 bytes each: read always and update with key 0A; read and update
+// always; read and update with key 01.
 const RULES: &[u8] =
     b"\x80\x01\x01\x90\x00\x80\x01\x02\xA4\x06\x83\x01\x0A\x95\x01\x08\xFF\xFF\xFF\xFF\xFF\
     \xFF\xFF\xFF\xFF\xFF\xFF\xFF\xFF\xFF\xFF\xFF\xFF\xFF\xFF\xFF\xFF\xFF\xFF\xFF\xFF\xFF\

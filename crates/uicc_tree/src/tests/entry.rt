@@ -4,8 +4,8 @@ use plain_lists::LongList;
 use std::alloc::Global;
 use std::process::Abort;
 
-// A file: its path, kind, record length, size, SFI, the row of its rule, and the name of an application, or what the
-// body of another file begins with.
+// A file: its path, kind, record length, size, SFI, the row of its rule, and the name of an
+// application, or what the body of another file begins with.
 #[derive(Clone, Copy)]
 pub struct Entry(
     pub &'static [u16],
@@ -45,11 +45,7 @@ impl Entry {
 
     // Its body goes on with FF.
     pub fn row(&self, rt: &impl Abort, alloc: Global) -> Result<FileRow, NoMemory> {
-        let bytes = if self.1.is_application() {
-            &[]
-        } else {
-            self.6
-        };
+        let bytes = if self.1.is_application() { &[] } else { self.6 };
         let mut body = Vec::from_slice(alloc, bytes)?;
         body.resize(usize::from(self.3), 0xFF)?;
         Ok(FileRow {

@@ -62,8 +62,8 @@ fn the_nodes_of_files_that_went_are_used_again(rt: HostRuntime) -> Result<(), Fa
     let alloc = rt.alloc();
     let (mut content, mut tree) = made(&rt, alloc, &FILES)?;
     let first = nodes_of(&rt, alloc, &tree)?;
-    for turn in 0..200 {
-        let files = if turn % 2 == 0 {
+    for round in 0..200 {
+        let files = if round % 2 == 0 {
             &FILES[1..2]
         } else {
             &FILES[2..]

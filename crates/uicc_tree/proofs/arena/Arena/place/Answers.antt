@@ -4,47 +4,47 @@ use Rattle.uicc_tree.specs.Files.{Files, IsLive, file_of, rows_of}
 use Rattle.uicc_tree.proofs.AddLemmas.{adds_to_tree, live_stays}
 use Rattle.uicc_tree.proofs.PlaceLemmas.{adds_alone, adds_named, directory_live, marked_new, room_stays, rows_added, same_arena, within_new}
 use Rattle.uicc_tree.proofs.arena.Arena.place.Goals as goal
-use Rattle.uicc_tree.proofs.arena.Arena.place.Goals.{After-hang, In_default}
+use Rattle.uicc_tree.proofs.arena.Arena.place.Goals.{After-append_child, In_default}
 
-pub hang-requires-clause-within : goal.hang-requires-clause-within
-hang-requires-clause-within c =
+pub append_child-requires-clause-within : goal.append_child-requires-clause-within
+append_child-requires-clause-within c =
     within_new c.args.self.now c.add-node.new.self _ c.add-node.result c.requires.arena c.add-node.ensures c.in-Some.above
     (directory_live (files_of c.args.self.now) c.args.head.path c.args.directory c.requires.stands c.in-Some.above c.in-Some.is)
 
-pub hang-requires-clause-room : goal.hang-requires-clause-room
-hang-requires-clause-room c =
+pub append_child-requires-clause-room : goal.append_child-requires-clause-room
+append_child-requires-clause-room c =
     room_stays c.args.self.now c.add-node.new.self _ c.add-node.result c.requires.arena c.add-node.ensures c.in-Some.above
     (directory_live (files_of c.args.self.now) c.args.head.path c.args.directory c.requires.stands c.in-Some.above c.in-Some.is)
     ∙ c.requires.room.child c.in-Some.above c.in-Some.is
 
-adds : (c : After-hang)
-    → AddsNode (files_of c.args.self.now) (files_of c.add-node.new.self) (children_of c.args.self.now) (children_of c.hang.new.self) c.add-node.result
+adds : (c : After-append_child)
+    → AddsNode (files_of c.args.self.now) (files_of c.add-node.new.self) (children_of c.args.self.now) (children_of c.append_child.new.self) c.add-node.result
     (record { head = c.args.head; body = c.args.body.items }) (Some c.in-Some.above)
 adds c =
     adds_named c.args.self.now c.add-node.new.self _ c.add-node.result c.requires.arena c.add-node.ensures c.in-Some.above
     (directory_live (files_of c.args.self.now) c.args.head.path c.args.directory c.requires.stands c.in-Some.above c.in-Some.is)
-    c.new-children.ensures.items (children_of c.hang.new.self) c.hang.ensures.children
+    c.new-children.ensures.items (children_of c.append_child.new.self) c.append_child.ensures.children
 
-stands : (c : After-hang) → CanStand (files_of c.args.self.now) c.args.head.path (Some c.in-Some.above)
+stands : (c : After-append_child) → CanStand (files_of c.args.self.now) c.args.head.path (Some c.in-Some.above)
 stands c = subst (λ (d : Option ℕ). CanStand (files_of c.args.self.now) c.args.head.path d) c.in-Some.is c.requires.stands
 
 pub returns-in-Some-clause-arena : goal.returns-in-Some-clause-arena
 returns-in-Some-clause-arena c =
-    same_arena c.add-node.new.self c.hang.new.self c.hang.ensures.files c.hang.ensures.marks c.hang.ensures.few c.add-node.ensures.few
-    (adds_to_tree (files_of c.args.self.now) (files_of c.add-node.new.self) (children_of c.args.self.now) (children_of c.hang.new.self) c.add-node.result
+    same_arena c.add-node.new.self c.append_child.new.self c.append_child.ensures.files c.append_child.ensures.marks c.append_child.ensures.few c.add-node.ensures.few
+    (adds_to_tree (files_of c.args.self.now) (files_of c.add-node.new.self) (children_of c.args.self.now) (children_of c.append_child.new.self) c.add-node.result
     _ (Some c.in-Some.above) c.requires.arena.tree (stands c) (adds c))
     (marked_new c.args.self.now c.add-node.new.self _ c.add-node.result c.requires.arena c.add-node.ensures refl)
 
 pub returns-in-Some-clause-rows : goal.returns-in-Some-clause-rows
 returns-in-Some-clause-rows c =
-    ap rows_of c.hang.ensures.files ∙ rows_added _ _ _ _ _ _ _ (adds c)
+    ap rows_of c.append_child.ensures.files ∙ rows_added _ _ _ _ _ _ _ (adds c)
 
 pub returns-in-Some-clause-stay : goal.returns-in-Some-clause-stay
 returns-in-Some-clause-stay c node live = (
-  subst (λ (t : Files). IsLive t node) (sym c.hang.ensures.files)
-      (live_stays (files_of c.args.self.now) (files_of c.add-node.new.self) (children_of c.args.self.now) (children_of c.hang.new.self) c.add-node.result
+  subst (λ (t : Files). IsLive t node) (sym c.append_child.ensures.files)
+      (live_stays (files_of c.args.self.now) (files_of c.add-node.new.self) (children_of c.args.self.now) (children_of c.append_child.new.self) c.add-node.result
       _ (Some c.in-Some.above) c.requires.arena.tree (stands c) (adds c) node live),
-  ap (λ (t : Files). file_of t node) c.hang.ensures.files ∙ (adds c).files node live,
+  ap (λ (t : Files). file_of t node) c.append_child.ensures.files ∙ (adds c).files node live,
 )
 
 adds_first : (c : In_default)

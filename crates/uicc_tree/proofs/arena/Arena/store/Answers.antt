@@ -14,7 +14,7 @@ pushed : (c : goal.Joined-push) → c.push.new.self.items ≡ c.args.self.now.sl
 pushed c =
     let slots = c.args.self.now.slots in
     let room : vec_len slots < vec_capacity slots =
-    ⊎_elim (λ vacant. absurd (c.in_default.ensures.none vacant.0 vacant.1)) (λ free. omega (arith, free.0, slots.ok.0)) c.requires.node in
+    ⊎_elim (λ free_node. absurd (c.in_default.ensures.none free_node.0 free_node.1)) (λ free. omega (arith, free.0, slots.ok.0)) c.requires.node in
     let ok = c.push.ensures.succeeds room in
     c.push.ensures.items ∙ ap (λ (b : Bool). cond b (slots.items ++ c.args.slot ∷ []) slots.items) ok
 

@@ -8,8 +8,8 @@ use Rattle.uicc_tree.proofs.arena.Arena.write_record.Goals as goal
 
 pub returns-then-number-eq0 : goal.returns-then-number-eq0
 returns-then-number-eq0 c =
-    subst (λ (number : ℕ). Changes c.args.self.now c.turn.new.self c.args.path.now (with_body (with_record number c.args.bytes.now))) (sym c.if-number-eq0.true)
-    (changes_file c.args.self.now c.turn.new.self c.in-Some.node c.args.path.now (with_body (with_record 0 c.args.bytes.now)) c.requires.arena c.in-Some.ensures.found.0 c.in-Some.ensures.found.1 (λ row. refl) c.turn.ensures)
+    subst (λ (number : ℕ). Changes c.args.self.now c.insert_record.new.self c.args.path.now (with_body (with_record number c.args.bytes.now))) (sym c.if-number-eq0.true)
+    (changes_file c.args.self.now c.insert_record.new.self c.in-Some.node c.args.path.now (with_body (with_record 0 c.args.bytes.now)) c.requires.arena c.in-Some.ensures.found.0 c.in-Some.ensures.found.1 (λ row. refl) c.insert_record.ensures)
 
 pub returns-else-number-eq0 : goal.returns-else-number-eq0
 returns-else-number-eq0 c =

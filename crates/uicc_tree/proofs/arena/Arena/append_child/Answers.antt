@@ -5,7 +5,7 @@ use Rattle.uicc_tree.specs.Arena.{cell_of, children_of}
 use Rattle.uicc_tree.specs.Files.{Files}
 use Rattle.uicc_tree.specs.declared.room.Room.TheVariants.{Nothing}
 use Rattle.uicc_tree.proofs.SlotLemmas.{map_at, map_set_same}
-use Rattle.uicc_tree.proofs.arena.Arena.hang.Goals as goal
+use Rattle.uicc_tree.proofs.arena.Arena.append_child.Goals as goal
 
 pub returns-clause-files : goal.returns-clause-files
 returns-clause-files c =

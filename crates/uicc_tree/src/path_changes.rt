@@ -1,4 +1,4 @@
-// The changes of files, by their paths.
+// Changes of one file, by its path.
 ghost use Rattle.std.specs.Prelude.{◌≡◌, ℕ, ◌+◌, ◌≤◌, ◌<◌, length, ◌++◌, ◌∷◌, [], false, not, filter, replicate, slice_index, Option, None, IsSomeAnd, IsSome};
 ghost use Rattle.file_rows.specs.Change.{with_body, with_life, with_record, with_size, new_file, written, IsRecordFor};
 ghost use Rattle.file_rows.specs.Content.{file_at};
@@ -14,7 +14,8 @@ use file_rows::{FileHead, Life};
 impl Arena {
     pub fn write_range(&mut self, path: &[u16], offset: u16, bytes: &[u8])
         requires arena { IsArena self.old }
-        requires there { IsSomeAnd (file_at path.now (rows_of (files_of self.old))) (λ row. offset + length bytes.now ≤ length row.body) }
+        requires there { IsSomeAnd (file_at path.now (rows_of (files_of self.old)))
+            (λ row. offset + length bytes.now ≤ length row.body) }
         ensures { Changes self.old self.new path.now (with_body (written offset bytes.now)) }
     {
         if let Some(node) = self.find(path) {
@@ -24,12 +25,13 @@ impl Arena {
 
     pub fn write_record(&mut self, path: &[u16], number: u8, bytes: &[u8])
         requires arena { IsArena self.old }
-        requires there { IsSomeAnd (file_at path.now (rows_of (files_of self.old))) (λ row. IsRecordFor row number bytes.now × IsRow row) }
+        requires there { IsSomeAnd (file_at path.now (rows_of (files_of self.old)))
+            (λ row. IsRecordFor row number bytes.now × IsRow row) }
         ensures { Changes self.old self.new path.now (with_body (with_record number bytes.now)) }
     {
         if let Some(node) = self.find(path) {
             if number == 0 {
-                self.turn(node, bytes);
+                self.insert_record(node, bytes);
             } else {
                 let before = usize::from(number - 1);
                 self.write(node, before * bytes.len(), bytes);
@@ -63,9 +65,11 @@ impl Arena {
             × StandsIn (files_of self.old) head.now.path directory × HasPlace self.old directory }
         requires body { body.items ≡ replicate head.now.size 255 }
         ensures arena { IsArena self.new }
-        ensures rows { rows_of (files_of self.new) ≡ rows_of (files_of self.old) ++ new_file head.now ∷ [] }
+        ensures rows { rows_of (files_of self.new) ≡ rows_of (files_of self.old)
+            ++ new_file head.now ∷ [] }
         ensures stay { (node : ℕ) → IsLive (files_of self.old) node
-            → IsLive (files_of self.new) node × (path_of (files_of self.new) node ≡ path_of (files_of self.old) node) }
+            → IsLive (files_of self.new) node
+            × (path_of (files_of self.new) node ≡ path_of (files_of self.old) node) }
     {
         if let Room::Add { directory, .. } = room {
             self.place(directory, head.copy(), body);
@@ -76,9 +80,12 @@ impl Arena {
         requires arena { IsArena self.old }
         requires there { IsSome (file_at path.now (rows_of (files_of self.old))) }
         ensures arena { IsArena self.new }
-        ensures rows { rows_of (files_of self.new) ≡ filter (λ row. not (stands_below path.now row.head.path)) (rows_of (files_of self.old)) }
-        ensures stay { (node : ℕ) → IsLive (files_of self.old) node → stands_below path.now (path_of (files_of self.old) node) ≡ false
-            → IsLive (files_of self.new) node × (path_of (files_of self.new) node ≡ path_of (files_of self.old) node) }
+        ensures rows { rows_of (files_of self.new) ≡ filter
+            (λ row. not (stands_below path.now row.head.path)) (rows_of (files_of self.old)) }
+        ensures stay { (node : ℕ) → IsLive (files_of self.old) node
+            → stands_below path.now (path_of (files_of self.old) node) ≡ false
+            → IsLive (files_of self.new) node
+            × (path_of (files_of self.new) node ≡ path_of (files_of self.old) node) }
     {
         if let Some(node) = self.find(path) {
             self.remove(node, path);

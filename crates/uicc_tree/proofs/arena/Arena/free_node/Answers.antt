@@ -2,10 +2,10 @@ use Rattle.std.proofs.Common.{arith, List, map, get_or, false, below_more, ap, s
 use Rattle.std.proofs.lemmas.Bool.{true≢false}
 use Rattle.uicc_tree.proofs.SlotLemmas.{map_at}
 use Rattle.uicc_tree.specs.declared.arena.Slot.{Slot}
-use Rattle.uicc_tree.proofs.arena.Arena.vacant.Goals as goal
+use Rattle.uicc_tree.proofs.arena.Arena.free_node.Goals as goal
 
 pub returns-clause-none : goal.returns-clause-none
-returns-clause-none c node vacant = true≢false (sym (c.loop-node.invariant node (omega (arith, vacant.0))) ∙ vacant.1)
+returns-clause-none c node free_node = true≢false (sym (c.loop-node.invariant node (omega (arith, free_node.0))) ∙ free_node.1)
 
 pub loop-node-preserved : goal.loop-node-preserved
 loop-node-preserved c =

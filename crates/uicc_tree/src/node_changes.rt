@@ -1,4 +1,4 @@
-// Changes of one file.
+// Changes of one file, by its node.
 ghost use Rattle.std.specs.Prelude.{◌≡◌, ◌<◌, ◌≤◌, ◌+◌, length, slice_index, OnOk};
 ghost use Rattle.file_rows.specs.Change.{with_body, with_life, with_record, with_size, written};
 ghost use Rattle.uicc_tree.specs.Arena.{body_room_of, files_of, ChangesCell, SameNodes};
@@ -16,8 +16,8 @@ fn write_bytes(body: &mut [u8], offset: usize, bytes: &[u8])
     body[offset..offset + bytes.len()].copy_from_slice(bytes);
 }
 
-// Makes bytes the front of a body, and drops as many from its end.
-fn turn_bytes(body: &mut [u8], bytes: &[u8])
+// Puts bytes before those of a body, and drops as many from its end.
+fn insert_bytes(body: &mut [u8], bytes: &[u8])
     requires { length bytes.now ≤ length body.old }
     ensures { body.new ≡ with_record 0 bytes.now body.old }
 {
@@ -30,26 +30,30 @@ impl Arena {
     // Writes bytes over those of a body from an offset on.
     pub fn write(&mut self, node: u32, offset: usize, bytes: &[u8])
         requires within { node < length self.old.slots.items }
-        requires inside { offset + length bytes.now ≤ length (file_of (files_of self.old) node).body }
-        ensures { ChangesCell self.old self.new node (with_body (written offset bytes.now) (file_of (files_of self.old) node)) }
+        requires inside { offset + length bytes.now ≤ length
+            (file_of (files_of self.old) node).body }
+        ensures { ChangesCell self.old self.new node
+            (with_body (written offset bytes.now) (file_of (files_of self.old) node)) }
     {
         let slot = &mut self.slots[node as usize];
         write_bytes(slot.body.as_mut_slice(), offset, bytes);
     }
 
-    // Makes bytes the first record of a body, and drops as many from its end.
-    pub fn turn(&mut self, node: u32, bytes: &[u8])
+    // Puts a record before those of a body, and drops the last one.
+    pub fn insert_record(&mut self, node: u32, bytes: &[u8])
         requires within { node < length self.old.slots.items }
         requires inside { length bytes.now ≤ length (file_of (files_of self.old) node).body }
-        ensures { ChangesCell self.old self.new node (with_body (with_record 0 bytes.now) (file_of (files_of self.old) node)) }
+        ensures { ChangesCell self.old self.new node
+            (with_body (with_record 0 bytes.now) (file_of (files_of self.old) node)) }
     {
         let slot = &mut self.slots[node as usize];
-        turn_bytes(slot.body.as_mut_slice(), bytes);
+        insert_bytes(slot.body.as_mut_slice(), bytes);
     }
 
     pub fn set_life(&mut self, node: u32, life: Life)
         requires { node < length self.old.slots.items }
-        ensures { ChangesCell self.old self.new node (with_life life (file_of (files_of self.old) node)) }
+        ensures { ChangesCell self.old self.new node
+            (with_life life (file_of (files_of self.old) node)) }
     {
         let slot = &mut self.slots[node as usize];
         slot.head.life = life;
@@ -59,7 +63,8 @@ impl Arena {
     pub fn resize(&mut self, node: u32, size: u16)
         requires within { node < length self.old.slots.items }
         requires room { size ≤ slice_index (body_room_of self.old) node }
-        ensures { ChangesCell self.old self.new node (with_size size (file_of (files_of self.old) node)) }
+        ensures { ChangesCell self.old self.new node
+            (with_size size (file_of (files_of self.old) node)) }
     {
         let slot = &mut self.slots[node as usize];
         slot.head.size = size;
