@@ -1,2 +1,6 @@
+pub mod Deciding
+pub mod Keeping
+pub mod Keys
 pub mod Meaning
 pub mod Objects
+pub mod Passing

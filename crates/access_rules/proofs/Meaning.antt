@@ -15,7 +15,7 @@ use Rattle.access_rules.specs.Condition.Condition.{AllOf, Always, Key, Never, On
 use Rattle.access_rules.specs.Condition.Conditions.{Also, NoMore}
 use Rattle.access_rules.specs.Reading.{Read, asks_for_user, byte_of, codes_of, condition_of, conditions_by, empty_or_none, key_of, modes_of, object_at, objects_in, objects_of, rule_at, rule_with, rules_in, rules_of}
 use Rattle.access_rules.specs.Record.{AreConditions, BeginsWithRule, HasNoMore, IsCondition, IsModes, SpellsRules, key_objects}
-use Rattle.access_rules.proofs.Objects.{IsThere, Sound, and_then, by_test, eqb-is, eqb-not, mapped, none, object_read, object_there, objects_read, objects_there, of_some, same_values, some, weaken}
+use Rattle.access_rules.proofs.Objects.{IsThere, Sound, and_then, by_test, eqb-is, eqb-not, mapped, none, object_read, object_there, objects_fill, objects_read, of_some, same_values, some, weaken}
 
 empty_there : {X : Type 0} (P : X → Type 0) (bytes : List ℕ) (x : X) → (bytes ≡ [] → P x) → Sound P (empty_or_none bytes x)
 empty_there P [] x h = some P x (h refl)
@@ -64,10 +64,6 @@ conditions_there one n h (o ∷ objects) =
     and_then _ (λ c. IsCondition o c × (depth c ≤ n)) (λ cs. AreConditions (o ∷ objects) cs × (greatest_depth cs ≤ n)) (one o) (h o)
     (λ c p. mapped (Also c) (λ cs. AreConditions objects cs × (greatest_depth cs ≤ n)) (λ cs. AreConditions (o ∷ objects) cs × (greatest_depth cs ≤ n))
     (conditions_by one objects) (conditions_there one n h objects) (λ cs q. ((p.0, q.0), omega arith)))
-
-objects_fill : (bytes : List ℕ) → Sound (λ objects. LeadWith bytes objects []) (objects_of bytes)
-unfolding objects_of
-objects_fill bytes = objects_there (length bytes) bytes
 
 abbrev Listed : ℕ → Object → Conditions → Type 0
 Listed n o cs = ((objects : List Object) × LeadWith o.value objects [] × AreConditions objects cs) × (greatest_depth cs ≤ n)
@@ -185,7 +181,7 @@ modes_read o (Instructions codes) p =
 abbrev pub HasRule : List ℕ → Read AccessRule → Type 0
 HasRule bytes read = BeginsWithRule bytes read.found read.behind
 
-rule_there : (bytes : List ℕ) → Sound (HasRule bytes) (rule_at bytes)
+pub rule_there : (bytes : List ℕ) → Sound (HasRule bytes) (rule_at bytes)
 unfolding rule_at rule_with
 rule_there bytes =
     and_then _ (IsThere bytes) (HasRule bytes) (object_at bytes) (object_there bytes)

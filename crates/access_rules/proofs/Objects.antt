@@ -297,6 +297,10 @@ objects_read (o ∷ os) (suc most) (b ∷ bytes) h p =
     ap (option_and_then (λ (read : Read Object). option_map (λ objects. read.found ∷ objects) (objects_in most read.behind))) e
     ∙ ap (option_map (λ objects. o ∷ objects)) i
 
+pub objects_fill : (bytes : List ℕ) → Sound (λ objects. LeadWith bytes objects []) (objects_of bytes)
+unfolding objects_of
+objects_fill bytes = objects_there (length bytes) bytes
+
 -- one object and those behind it
 pub objects_step : (bytes : List ℕ) (read : Read Object) → object_at bytes ≡ Some read → objects_of bytes ≡ option_map (λ objects. read.found ∷ objects) (objects_of read.behind)
 unfolding objects_of objects_in
