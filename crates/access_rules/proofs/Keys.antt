@@ -50,8 +50,10 @@ no_usage value r e h = after_one value r e ∙ ap (λ (o : Option (List Object))
     rest : (bytes : List ℕ) → object_at bytes ≡ None → (objects_of bytes ≡ Some []) ⊎ (objects_of bytes ≡ None)
     rest [] e = inl no_objects
     rest (b ∷ bytes) e = inr (no_step b bytes e)
+
     i : objects_of r.behind ≡ objects_of r.behind
     i = refl
+
     j : option_and_then key_of (option_map (λ objects. r.found ∷ objects) (objects_of r.behind)) ≡ None
     j = ⊎_elim
         (λ k. ap (λ (o : Option (List Object)). option_and_then key_of (option_map (λ objects. r.found ∷ objects) o)) k)
@@ -96,6 +98,7 @@ module _ (value : List ℕ) (reference usage : Object) (rest more : List ℕ)
           second_apart k = by_test (λ x. x ≡ None) (reference.tag == 0x83) _ _
               (λ t. ap (option_and_then (λ _. byte_of reference.value)) (cond-false _ _ _ (eqb-not usage.tag 0x95 k)))
               (λ t. refl)
+
       by_rest : (bytes : List ℕ) → more ≡ bytes → key_in value ≡ None
       by_rest [] e = apart e
       by_rest (b ∷ bytes) e = too_many (λ f. absurd (cc))

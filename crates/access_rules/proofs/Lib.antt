@@ -1,4 +1,5 @@
 pub mod Deciding
+pub mod Finding
 pub mod Keeping
 pub mod Keys
 pub mod Meaning

@@ -87,15 +87,15 @@ condition_there (suc n) o = by_test (Sound (λ c. IsCondition o c × (depth c �
     (λ t. empty_there _ o.value Never (λ e. ((eqb-is o.tag 0x97 t, e), omega arith)))
     (λ t. by_test (Sound (λ c. IsCondition o c × (depth c ≤ suc n))) _ _ _
     (λ t. mapped Key (λ key. LeadWith o.value (key_objects key) []) (λ c. IsCondition o c × (depth c ≤ suc n)) _
-      (and_then key_of (λ objects. LeadWith o.value objects []) (λ key. LeadWith o.value (key_objects key) []) (objects_of o.value) (objects_fill o.value)
-        (λ objects p. for_key o.value objects p))
-      (λ key p. ((eqb-is o.tag 0xA4 t, p), omega arith)))
+    (and_then key_of (λ objects. LeadWith o.value objects []) (λ key. LeadWith o.value (key_objects key) []) (objects_of o.value) (objects_fill o.value)
+    (λ objects p. for_key o.value objects p))
+    (λ key p. ((eqb-is o.tag 0xA4 t, p), omega arith)))
     (λ t. by_test (Sound (λ c. IsCondition o c × (depth c ≤ suc n))) _ _ _
     (λ t. mapped OneOf (λ cs. Listed n o cs) (λ c. IsCondition o c × (depth c ≤ suc n)) _ (listed (condition_of n) n (condition_there n) o)
-      (λ cs p. ((eqb-is o.tag 0xA0 t, p.0), omega arith)))
+    (λ cs p. ((eqb-is o.tag 0xA0 t, p.0), omega arith)))
     (λ t. by_test (Sound (λ c. IsCondition o c × (depth c ≤ suc n))) _ _ _
     (λ t. mapped AllOf (λ cs. Listed n o cs) (λ c. IsCondition o c × (depth c ≤ suc n)) _ (listed (condition_of n) n (condition_there n) o)
-      (λ cs p. ((eqb-is o.tag 0xAF t, p.0), omega arith)))
+    (λ cs p. ((eqb-is o.tag 0xAF t, p.0), omega arith)))
     (λ t. none _)))))
 
 -- and what is spelled is read
@@ -267,10 +267,10 @@ rules_step b bytes read n e =
     let p : HasRule (b ∷ bytes) read = of_some (HasRule (b ∷ bytes)) (rule_at (b ∷ bytes)) read (rule_there (b ∷ bytes)) e in
     let s = rule_shorter p in
     let i : rules_in (length bytes) read.behind ≡ rules_in (length read.behind) read.behind =
-        same_values (SpellsRules read.behind) _ _
-        (rules_there (length bytes) read.behind) (rules_there (length read.behind) read.behind)
-        (λ rs q. rules_read rs (length bytes) read.behind (omega arith) q)
-        (λ rs q. rules_read rs (length read.behind) read.behind (omega arith) q) in
+    same_values (SpellsRules read.behind) _ _
+    (rules_there (length bytes) read.behind) (rules_there (length read.behind) read.behind)
+    (λ rs q. rules_read rs (length bytes) read.behind (omega arith) q)
+    (λ rs q. rules_read rs (length read.behind) read.behind (omega arith) q) in
     cond-false _ _ _ (eqb-not b 0xFF n)
     ∙ ap (option_and_then (λ (read : Read AccessRule). option_map (λ rules. read.found ∷ rules) (rules_in (length bytes) read.behind))) e
     ∙ ap (option_map (λ rules. read.found ∷ rules)) i

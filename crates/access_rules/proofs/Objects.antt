@@ -87,9 +87,9 @@ long_tag_there a (b ∷ c ∷ more) h i = by_test (Sound (HasTag (a ∷ b ∷ c 
     (λ t. some _ _ (record { front = a ∷ b ∷ []; tagged = (h, i, ltb-true b 128 t, refl); whole = refl }))
     (λ t. by_test (Sound (HasTag (a ∷ b ∷ c ∷ more))) _ _ _
     (λ u.
-        let v = both (nat_lt 128 b && nat_lt b 256) (nat_lt c 128) u in
-        let w = both (nat_lt 128 b) (nat_lt b 256) v.0 in
-        some _ _ (record { front = a ∷ b ∷ c ∷ []; tagged = (h, i, ltb-true 128 b w.0, ltb-true b 256 w.1, ltb-true c 128 v.1, refl); whole = refl }))
+    let v = both (nat_lt 128 b && nat_lt b 256) (nat_lt c 128) u in
+    let w = both (nat_lt 128 b) (nat_lt b 256) v.0 in
+    some _ _ (record { front = a ∷ b ∷ c ∷ []; tagged = (h, i, ltb-true 128 b w.0, ltb-true b 256 w.1, ltb-true c 128 v.1, refl); whole = refl }))
     (λ u. none _))
 
 pub eqb-is : (a b : ℕ) → (a == b) ≡ true → a ≡ b
@@ -117,29 +117,29 @@ long_length_there a (b ∷ []) = by_test (Sound (HasLength (a ∷ b ∷ []))) _ 
         some _ _ (record { size = a ∷ b ∷ []; sized = (eqb-is a 0x81 v.0, ltb-true b 256 v.1, refl); whole = refl })
 long_length_there a (b ∷ c ∷ []) = by_test (Sound (HasLength (a ∷ b ∷ c ∷ []))) _ _ _
     (λ t.
-        let v = both (a == 0x81) (nat_lt b 256) t in
-        some _ _ (record { size = a ∷ b ∷ []; sized = (eqb-is a 0x81 v.0, ltb-true b 256 v.1, refl); whole = refl }))
+    let v = both (a == 0x81) (nat_lt b 256) t in
+    some _ _ (record { size = a ∷ b ∷ []; sized = (eqb-is a 0x81 v.0, ltb-true b 256 v.1, refl); whole = refl }))
     (λ t. by_test (Sound (HasLength (a ∷ b ∷ c ∷ []))) _ _ _
     (λ t.
-        let v = both (a == 0x82 && nat_lt b 256) (nat_lt c 256) t in
-        let w = both (a == 0x82) (nat_lt b 256) v.0 in
-        some _ _ (record { size = a ∷ b ∷ c ∷ []; sized = (eqb-is a 0x82 w.0, ltb-true b 256 w.1, ltb-true c 256 v.1, refl); whole = refl }))
+    let v = both (a == 0x82 && nat_lt b 256) (nat_lt c 256) t in
+    let w = both (a == 0x82) (nat_lt b 256) v.0 in
+    some _ _ (record { size = a ∷ b ∷ c ∷ []; sized = (eqb-is a 0x82 w.0, ltb-true b 256 w.1, ltb-true c 256 v.1, refl); whole = refl }))
     (λ t. none _))
 long_length_there a (b ∷ c ∷ d ∷ more) = by_test (Sound (HasLength (a ∷ b ∷ c ∷ d ∷ more))) _ _ _
     (λ t.
-        let v = both (a == 0x81) (nat_lt b 256) t in
-        some _ _ (record { size = a ∷ b ∷ []; sized = (eqb-is a 0x81 v.0, ltb-true b 256 v.1, refl); whole = refl }))
+    let v = both (a == 0x81) (nat_lt b 256) t in
+    some _ _ (record { size = a ∷ b ∷ []; sized = (eqb-is a 0x81 v.0, ltb-true b 256 v.1, refl); whole = refl }))
     (λ t. by_test (Sound (HasLength (a ∷ b ∷ c ∷ d ∷ more))) _ _ _
     (λ t.
-        let v = both (a == 0x82 && nat_lt b 256) (nat_lt c 256) t in
-        let w = both (a == 0x82) (nat_lt b 256) v.0 in
-        some _ _ (record { size = a ∷ b ∷ c ∷ []; sized = (eqb-is a 0x82 w.0, ltb-true b 256 w.1, ltb-true c 256 v.1, refl); whole = refl }))
+    let v = both (a == 0x82 && nat_lt b 256) (nat_lt c 256) t in
+    let w = both (a == 0x82) (nat_lt b 256) v.0 in
+    some _ _ (record { size = a ∷ b ∷ c ∷ []; sized = (eqb-is a 0x82 w.0, ltb-true b 256 w.1, ltb-true c 256 v.1, refl); whole = refl }))
     (λ t. by_test (Sound (HasLength (a ∷ b ∷ c ∷ d ∷ more))) _ _ _
     (λ t.
-        let u = both (a == 0x83 && nat_lt b 256 && nat_lt c 256) (nat_lt d 256) t in
-        let v = both (a == 0x83 && nat_lt b 256) (nat_lt c 256) u.0 in
-        let w = both (a == 0x83) (nat_lt b 256) v.0 in
-        some _ _ (record { size = a ∷ b ∷ c ∷ d ∷ []; sized = (eqb-is a 0x83 w.0, ltb-true b 256 w.1, ltb-true c 256 v.1, ltb-true d 256 u.1, refl); whole = refl }))
+    let u = both (a == 0x83 && nat_lt b 256 && nat_lt c 256) (nat_lt d 256) t in
+    let v = both (a == 0x83 && nat_lt b 256) (nat_lt c 256) u.0 in
+    let w = both (a == 0x83) (nat_lt b 256) v.0 in
+    some _ _ (record { size = a ∷ b ∷ c ∷ d ∷ []; sized = (eqb-is a 0x83 w.0, ltb-true b 256 w.1, ltb-true c 256 v.1, ltb-true d 256 u.1, refl); whole = refl }))
     (λ t. none _)))
 
 length_there : (bytes : List ℕ) → Sound (HasLength bytes) (length_at bytes)
@@ -169,7 +169,7 @@ object_there bytes = and_then _ (HasTag bytes) (IsThere bytes) (tag_at bytes) (t
 pub ltb-is : (a b : ℕ) → a < b → nat_lt a b ≡ true
 ltb-is a b h = grind (arith, nat_tests)
 
-ltb-not : (a b : ℕ) → b ≤ a → nat_lt a b ≡ false
+pub ltb-not : (a b : ℕ) → b ≤ a → nat_lt a b ≡ false
 ltb-not a b h = grind (arith, nat_tests)
 
 leb-is : (a b : ℕ) → a ≤ b → nat_le a b ≡ true
@@ -233,8 +233,8 @@ four_read a b c d x n h i j k e =
     cond-false _ _ _ (not_81 a b (omega arith))
     ∙ cond-false _ _ _ (not_82 a b c h)
     ∙ cond-true _ _ _ (and-is (a == 0x83 && nat_lt b 256 && nat_lt c 256) (nat_lt d 256)
-        (and-is (a == 0x83 && nat_lt b 256) (nat_lt c 256) (and-is (a == 0x83) (nat_lt b 256) (eq-eqb a 0x83 h) (ltb-is b 256 i)) (ltb-is c 256 j))
-        (ltb-is d 256 k))
+    (and-is (a == 0x83 && nat_lt b 256) (nat_lt c 256) (and-is (a == 0x83) (nat_lt b 256) (eq-eqb a 0x83 h) (ltb-is b 256 i)) (ltb-is c 256 j))
+    (ltb-is d 256 k))
     ∙ same_read _ _ _ e
 
 length_read : (a x : List ℕ) (n : ℕ) → SpellsLength a n → length_at (a ++ x) ≡ Some (record { found = n; behind = x })
@@ -261,9 +261,9 @@ object_read bytes object rest p =
     let t = tag_of p in
     let l = length_of p in
     let whole : tag_at bytes ≡ Some (record { found = object.tag; behind = p.spelled.size ++ object.value ++ rest }) =
-        ap tag_at t.whole ∙ tag_read t.front _ object.tag t.tagged in
+    ap tag_at t.whole ∙ tag_read t.front _ object.tag t.tagged in
     let sized : length_at (p.spelled.size ++ object.value ++ rest) ≡ Some (record { found = length object.value; behind = object.value ++ rest }) =
-        ap length_at l.whole ∙ length_read l.size _ (length object.value) l.sized in
+    ap length_at l.whole ∙ length_read l.size _ (length object.value) l.sized in
     ap (option_and_then (λ (tag : Read ℕ). option_and_then (value_at tag.found) (length_at tag.behind))) whole
     ∙ ap (option_and_then (value_at object.tag)) sized
     ∙ value_read object.tag object.value rest
@@ -313,10 +313,10 @@ objects_step (b ∷ bytes) read e =
     let s = shorter p in
     let short : length read.behind ≤ length bytes = omega arith in
     let i : objects_in (length bytes) read.behind ≡ objects_in (length read.behind) read.behind =
-        same_values (λ objects. LeadWith read.behind objects []) _ _
-        (objects_there (length bytes) read.behind) (objects_there (length read.behind) read.behind)
-        (λ os q. objects_read os (length bytes) read.behind short q)
-        (λ os q. objects_read os (length read.behind) read.behind (omega arith) q) in
+    same_values (λ objects. LeadWith read.behind objects []) _ _
+    (objects_there (length bytes) read.behind) (objects_there (length read.behind) read.behind)
+    (λ os q. objects_read os (length bytes) read.behind short q)
+    (λ os q. objects_read os (length read.behind) read.behind (omega arith) q) in
     ap (option_and_then (λ (read : Read Object). option_map (λ objects. read.found ∷ objects) (objects_in (length bytes) read.behind))) e
     ∙ ap (option_map (λ objects. read.found ∷ objects)) i
 

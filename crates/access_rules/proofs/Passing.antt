@@ -92,8 +92,8 @@ module _ (bytes : List ℕ) where
       let m = had (λ modes. covers modes mode) (modes_of o) covered h in
       let n = had (holds met) (condition_of 8 p) holding l in
       ap (option_map {U = Option Bool × List ℕ} (λ (read : Read AccessRule). (answer_of mode met read.found, read.behind)))
-        (with_condition o p rest more m.0 e m.1 k
-        ∙ ap (option_map (λ condition. record { found = record { modes = m.0; condition = condition }; behind = more })) n.1)
+      (with_condition o p rest more m.0 e m.1 k
+      ∙ ap (option_map (λ condition. record { found = record { modes = m.0; condition = condition }; behind = more })) n.1)
       ∙ ap (λ (b : Bool). Some (cond b (Some (holds met n.0)) None, more)) m.2
       ∙ ap (λ (b : Bool). Some (cond covered (Some b) None, more)) n.2
 
@@ -141,6 +141,7 @@ next_rule mode met whole before answer (b ∷ bytes) behind n e w =
     or_unwrap : (o p : Option Bool) (b : Bool) → unwrap_or o (unwrap_or p b) ≡ unwrap_or (option_or o p) b
     or_unwrap None p b = refl
     or_unwrap (Some x) p b = refl
+
     through : (rule : AccessRule) (o : Option (List AccessRule)) → option_map (λ rules. unwrap_or before (allows rules mode met)) (option_map (λ rules. rule ∷ rules) o)
         ≡ option_map (λ rules. unwrap_or (option_or before (answer_of mode met rule)) (allows rules mode met)) o
     through rule None = refl

@@ -1,5 +1,6 @@
 -- Which keys are met (ETSI TS 102 221, PIN and key references).
-use Rattle.std.specs.Prelude.{ℕ, Bool, false, not, ◌==◌, ◌&&◌, ◌||◌, if◌then◌else◌, List, map, find, Option, option_map, unwrap_or}
+use Rattle.std.specs.Prelude.{ℕ, Bool, false, not, ◌-◌, ◌==◌, ◌&&◌, ◌||◌, if◌then◌else◌, List, map, find, Option, option_map, unwrap_or}
+use Rattle.std.specs.Int.{bit_at}
 use Rattle.plain_lists.specs.FirstOf.{first_of}
 use Rattle.file_rows.specs.Content.{file_at}
 use Rattle.file_rows.specs.FileHead.{holds_files}
@@ -18,10 +19,18 @@ pin_at pins key home = find (λ pin. same_path pin.home home && (pin.key == key)
 abbrev pub pin_for : List PinRow → List ℕ → ℕ → Option PinRow
 pin_for pins directory key = first_of (map (pin_at pins key) (enclosing directory))
 
+-- whether a key with this PIN is met: the PIN is verified or disabled
+abbrev pub counts : (ℕ → Bool) → PinRow → Bool
+counts verified pin = verified pin.number || not pin.enabled
+
 -- a key is met where the PIN so found is verified or disabled
 abbrev pub met : List PinRow → (ℕ → Bool) → List ℕ → ℕ → Bool
 met pins verified directory key =
-    unwrap_or (option_map (λ pin. verified pin.number || not pin.enabled) (pin_for pins directory key)) false
+    unwrap_or (option_map (counts verified) (pin_for pins directory key)) false
+
+-- the PINs that a session knows to be verified: bit number - 1 stands for the PIN of that number
+abbrev pub is_set : ℕ → ℕ → Bool
+is_set verified number = bit_at verified (number - 1) == 1
 
 -- the directory from which the keys of a file's rule are looked for: a directory's own, and that which holds an EF
 abbrev pub key_directory : FileRow → List ℕ

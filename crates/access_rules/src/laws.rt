@@ -35,9 +35,9 @@ pub fn always_and_never()
 pub fn answers_by_the_record_named()
     ensures { (content other : Content) (verified : ℕ → Bool) (path : List ℕ) (mode : Mode)
         → option_and_then (rule_record content.rows) (file_at path content.rows)
-            ≡ option_and_then (rule_record other.rows) (file_at path other.rows)
+        ≡ option_and_then (rule_record other.rows) (file_at path other.rows)
         → met_for content.pins verified (file_at path content.rows)
-            ≡ met_for other.pins verified (file_at path other.rows)
+        ≡ met_for other.pins verified (file_at path other.rows)
         → allowed content verified path mode ≡ allowed other verified path mode }
 {}
 

@@ -5,6 +5,7 @@ mod condition;
 mod fault;
 mod key_set;
 mod laws;
+mod met;
 mod object;
 mod rules;
 
@@ -15,6 +16,7 @@ pub use laws::{
     always_and_never, answers_by_the_record_named, met_by_the_nearest_pin, more_keys_allow_no_less,
     records_have_one_meaning,
 };
+pub use met::met_keys;
 pub use rules::{Rules, read_rules, record_allows};
 
 #[cfg(test)]

@@ -65,7 +65,7 @@ fn first_rule<'a>(
 ) -> Result<(Option<bool>, &'a [u8]), RuleFault>
     ensures { MatchResult result
         (λ r. option_map {U = Option Bool × List ℕ} (λ (read : Read AccessRule). (answer_of mode (has met.now) read.found, read.behind))
-            (rule_at bytes.now) ≡ Some (r.0, r.1.now))
+        (rule_at bytes.now) ≡ Some (r.0, r.1.now))
         (λ _. rule_at bytes.now ≡ None) }
 {
     let (modes, rest) = first_object(bytes)?;

@@ -1,4 +1,5 @@
 use super::*;
+use file_rows::{Path, PinRow};
 
 // A key set of these keys.
 fn keys(list: &[u8]) -> KeySet {
@@ -10,6 +11,7 @@ fn keys(list: &[u8]) -> KeySet {
 }
 
 const READ: Mode = Mode::Bit(0x01);
+
 const UPDATE: Mode = Mode::Bit(0x02);
 
 #[test]
@@ -46,7 +48,10 @@ fn refuses_a_malformed_record(rt: HostRuntime) {
         b"\x80\x01\x01\x90\x00\x00",
     ];
     for record in malformed {
-        assert!(rt; read_rules(record) == Err(RuleFault::Malformed), "{record:?}");
+        assert!(rt;
+            read_rules(record) == Err(RuleFault::Malformed),
+            "{record:?}"
+        );
         assert!(rt; !record_allows(record, READ, &keys(&[0x01])), "{record:?}");
     }
     assert_eq!(rt; RuleFault::Malformed.number(), 1);
@@ -77,7 +82,10 @@ fn answers_by_the_first_rule_that_covers(rt: HostRuntime) {
         (b"\x80\x01\x01\x90\x00\x80\x01\x02\x91\x00", READ, false),
     ];
     for (record, mode, expected) in cases {
-        assert!(rt; record_allows(record, mode, &keys(&[0x01])) == expected, "{record:?}");
+        assert!(rt;
+            record_allows(record, mode, &keys(&[0x01])) == expected,
+            "{record:?}"
+        );
     }
 }
 
@@ -102,6 +110,60 @@ fn a_record_is_asked_again_without_a_refusal(rt: HostRuntime) {
         assert!(rt; rules.allows(READ, &KeySet::none()));
         assert!(rt; !rules.allows(UPDATE, &KeySet::none()));
         assert!(rt; rules.allows(UPDATE, &keys(&[0x0A])));
+    }
+}
+
+// The first record is filled up with FF to the length of the records of its file.
+#[test]
+fn the_records_of_the_sample_card_answer(rt: HostRuntime) {
+    let first: &[u8] =
+        b"\x80\x01\x01\x90\x00\x80\x01\x02\xA4\x06\x83\x01\x0A\x95\x01\x08\xFF\xFF\xFF\xFF\xFF\xFF\xFF\xFF\xFF\xFF";
+    let second: &[u8] = b"\x80\x01\x03\x90\x00";
+    let third: &[u8] = b"\x80\x01\x03\xA4\x06\x83\x01\x01\x95\x01\x08";
+    let none = KeySet::none();
+    assert!(rt; record_allows(first, READ, &none) && !record_allows(first, UPDATE, &none));
+    assert!(rt; record_allows(first, UPDATE, &keys(&[0x0A])));
+    assert!(rt; record_allows(second, READ, &none) && record_allows(second, UPDATE, &none));
+    assert!(rt; !record_allows(third, READ, &none) && record_allows(third, READ, &keys(&[0x01])));
+    assert!(rt; !record_allows(second, Mode::Bit(0x08), &keys(&[0x01])));
+}
+
+fn pin(number: u8, home: Path, key: u8, enabled: bool) -> PinRow {
+    PinRow {
+        number,
+        home,
+        key,
+        value: *b"1234\xFF\xFF\xFF\xFF",
+        max: 3,
+        left: 3,
+        enabled,
+        puk: None,
+    }
+}
+
+#[test]
+fn keys_are_met_from_the_directory_upwards(rt: HostRuntime) {
+    let pins = [
+        pin(1, Path::new(), 0x01, true),
+        pin(2, Path::from_slice(&[0x7F10]), 0x81, true),
+        pin(3, Path::from_slice(&[0x7F20]), 0x81, false),
+        pin(4, Path::new(), 0x0A, false),
+        pin(5, Path::from_slice(&[0x7F10, 0x5F3A]), 0x81, true),
+    ];
+    let cases: [(Path, u32, u8, bool); 9] = [
+        (Path::new(), 0b00000, 0x01, false),
+        (Path::new(), 0b00001, 0x01, true),
+        (Path::from_slice(&[0x7F10, 0x5F3B]), 0b00001, 0x01, true),
+        (Path::new(), 0b00000, 0x0A, true),
+        (Path::new(), 0b00010, 0x81, false),
+        (Path::from_slice(&[0x7F10]), 0b00000, 0x81, false),
+        (Path::from_slice(&[0x7F10]), 0b00010, 0x81, true),
+        (Path::from_slice(&[0x7F20]), 0b00000, 0x81, true),
+        (Path::from_slice(&[0x7F10, 0x5F3A]), 0b00010, 0x81, false),
+    ];
+    for (directory, verified, key, expected) in cases {
+        let met = met_keys(&pins, &directory, verified);
+        assert_eq!(rt; met.has(key), expected);
     }
 }
 

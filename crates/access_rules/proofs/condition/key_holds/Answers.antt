@@ -21,9 +21,9 @@ returns-in_err-usage c =
 pub returns-then-reference-ne131 : goal.returns-then-reference-ne131
 returns-then-reference-ne131 c = refused _ (ap (option_map (has c.args.met.now))
     (elim c.then-reference-ne131.branch [
-    then-reference-ne131-via-then-reference-ne131 w ↦ other_tags c.args.value.now _ _ _ _ c.in_ok-reference.ensures c.in_ok-usage.ensures (inl w.if-reference-ne131.true)
-    | then-reference-ne131-via-else-reference-ne131+then-usage-ne149 w ↦ other_tags c.args.value.now _ _ _ _ c.in_ok-reference.ensures c.in_ok-usage.ensures (inr w.if-usage-ne149.true)
-    | then-reference-ne131-via-else-reference-ne131+else-usage-ne149+then-not-is_empty w ↦ too_many c.args.value.now _ _ _ _ c.in_ok-reference.ensures c.in_ok-usage.ensures (not_empty _ _ w.is_empty.ensures w.if-not-is_empty.true)
+      | then-reference-ne131-via-then-reference-ne131 w ↦ other_tags c.args.value.now _ _ _ _ c.in_ok-reference.ensures c.in_ok-usage.ensures (inl w.if-reference-ne131.true)
+      | then-reference-ne131-via-else-reference-ne131+then-usage-ne149 w ↦ other_tags c.args.value.now _ _ _ _ c.in_ok-reference.ensures c.in_ok-usage.ensures (inr w.if-usage-ne149.true)
+      | then-reference-ne131-via-else-reference-ne131+else-usage-ne149+then-not-is_empty w ↦ too_many c.args.value.now _ _ _ _ c.in_ok-reference.ensures c.in_ok-usage.ensures (not_empty _ _ w.is_empty.ensures w.if-not-is_empty.true)
     ]))
 
 pub returns-in_err-only_byte : goal.returns-in_err-only_byte
