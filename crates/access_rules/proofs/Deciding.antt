@@ -1,17 +1,15 @@
 -- What a pass over the bytes of a list of conditions comes to, object by object.
-use Rattle.std.proofs.Common.{◌≡◌, ℕ, zero, suc, ◌-◌, ◌<◌, length, Bool, true, false, cond, List, [], ◌∷◌, Option, Some, None, Result, Ok, Err, refl, sym, ◌∙◌, ap, subst, arith, eq-eqb}
-use Rattle.std.specs.Prelude.{◌==◌, ◌&&◌, ◌||◌, ⊤, option_and_then, option_map}
+use Rattle.std.proofs.Common.{◌≡◌, ℕ, zero, suc, ◌-◌, ◌<◌, length, Bool, true, false, List, [], ◌∷◌, Option, Some, None, Result, Ok, Err, refl, sym, ◌∙◌, ap, subst, arith, eq-eqb}
+use Rattle.std.specs.Prelude.{◌==◌, ◌&&◌, ◌||◌, option_and_then, option_map}
 use Rattle.std.specs.Option.{ok_or}
 use Rattle.std.proofs.lemmas.Bool.{cond-true, cond-false}
 use Rattle.ber_tlv.specs.Walk.{Object}
 use Rattle.access_rules.specs.declared.fault.RuleFault.{RuleFault}
 use Rattle.access_rules.specs.declared.fault.RuleFault.TheVariants.{Malformed}
-use Rattle.file_rows.specs.declared.mode.Mode.{Mode}
-use Rattle.access_rules.specs.AccessRule.{AccessRule, allows, covers}
 use Rattle.access_rules.specs.Condition.{Condition, Conditions, all_hold, holds, one_holds}
 use Rattle.access_rules.specs.Condition.Condition.{AllOf, Always, Key, Never, OneOf}
 use Rattle.access_rules.specs.Condition.Conditions.{Also, NoMore}
-use Rattle.access_rules.specs.Reading.{Read, asks_for_user, byte_of, condition_of, conditions_by, empty_or_none, key_of, object_at, objects_in, objects_of}
+use Rattle.access_rules.specs.Reading.{Read, condition_of, conditions_by, empty_or_none, key_of, object_at, objects_of}
 use Rattle.access_rules.proofs.Objects.{IsThere, eqb-not, no_objects, no_step, object_there, objects_step, of_some}
 use Rattle.ber_tlv.proofs.Walking.{shorter}
 

@@ -1,6 +1,6 @@
 -- A key more that is met takes nothing away.
-use Rattle.std.proofs.Common.{◌≡◌, ℕ, Bool, true, false, cond, List, [], ◌∷◌, Option, Some, None, refl, sym, ◌∙◌, ap}
-use Rattle.std.specs.Prelude.{◌&&◌, ◌||◌, IsTrue, option_map, unwrap_or}
+use Rattle.std.proofs.Common.{◌≡◌, ℕ, Bool, true, false, cond, List, [], ◌∷◌, Option, Some, None, refl}
+use Rattle.std.specs.Prelude.{◌&&◌, ◌||◌, option_map, unwrap_or}
 use Rattle.file_rows.specs.declared.mode.Mode.{Mode}
 use Rattle.access_rules.specs.AccessRule.{AccessRule, allows, covers}
 use Rattle.access_rules.specs.Condition.{Condition, Conditions, all_hold, holds, one_holds}

@@ -1,9 +1,7 @@
 -- What is read of a condition, a rule and a record is what their bytes spell.
-use Rattle.std.proofs.Common.{◌≡◌, ℕ, zero, suc, ◌+◌, ◌<◌, ◌≤◌, Bool, true, false, cond, max, List, [], ◌∷◌, ◌++◌, length, Option, Some, None, refl, sym, ◌∙◌, ap, subst, arith, eq-eqb, inl, inr, ⊎_elim}
-use Rattle.std.specs.Prelude.{◌==◌, ◌⊎◌, ◌↔◌, ⊤, option_and_then, option_map}
+use Rattle.std.proofs.Common.{◌≡◌, ℕ, zero, suc, ◌<◌, ◌≤◌, false, List, [], ◌∷◌, ◌++◌, length, Option, Some, None, refl, sym, ◌∙◌, ap, subst, arith, eq-eqb, inl, inr, ⊎_elim}
+use Rattle.std.specs.Prelude.{◌==◌, ◌↔◌, option_and_then, option_map}
 use Rattle.std.proofs.lemmas.Bool.{cond-true, cond-false}
-use Rattle.std.proofs.lemmas.Bool.Decides.{nat_tests}
-use Rattle.ber_tlv.specs.Tlv.{BeginsWith}
 use Rattle.ber_tlv.specs.Walk.{LeadWith, Object}
 use Rattle.ber_tlv.proofs.Reading.{tag_of}
 use Rattle.ber_tlv.proofs.Walking.{shorter}
@@ -13,8 +11,8 @@ use Rattle.access_rules.specs.AccessRule.Modes.{Bits, Instructions}
 use Rattle.access_rules.specs.Condition.{Condition, Conditions, depth, greatest_depth}
 use Rattle.access_rules.specs.Condition.Condition.{AllOf, Always, Key, Never, OneOf}
 use Rattle.access_rules.specs.Condition.Conditions.{Also, NoMore}
-use Rattle.access_rules.specs.Reading.{Read, asks_for_user, byte_of, codes_of, condition_of, conditions_by, empty_or_none, key_of, modes_of, object_at, objects_in, objects_of, rule_at, rule_with, rules_in, rules_of}
-use Rattle.access_rules.specs.Record.{AreConditions, BeginsWithRule, HasNoMore, IsCondition, IsModes, SpellsRules, key_objects}
+use Rattle.access_rules.specs.Reading.{Read, asks_for_user, byte_of, codes_of, condition_of, conditions_by, empty_or_none, key_of, modes_of, object_at, objects_of, rule_at, rule_with, rules_in, rules_of}
+use Rattle.access_rules.specs.Record.{AreConditions, BeginsWithRule, IsCondition, IsModes, SpellsRules, key_objects}
 use Rattle.access_rules.proofs.Objects.{IsThere, Sound, and_then, by_test, eqb-is, eqb-not, mapped, none, object_read, object_there, objects_fill, objects_read, of_some, same_values, some, weaken}
 
 empty_there : {X : Type 0} (P : X → Type 0) (bytes : List ℕ) (x : X) → (bytes ≡ [] → P x) → Sound P (empty_or_none bytes x)

@@ -1,5 +1,5 @@
 -- What a pass over the rules of a record comes to, rule by rule.
-use Rattle.std.proofs.Common.{◌≡◌, ℕ, zero, suc, ◌<◌, Bool, true, false, cond, List, [], ◌∷◌, length, Option, Some, None, Ok, refl, sym, ◌∙◌, ap, subst, arith, eq-eqb, ◌⊎◌, inl, inr}
+use Rattle.std.proofs.Common.{◌≡◌, ℕ, ◌<◌, Bool, true, false, cond, List, [], ◌∷◌, length, Option, Some, None, Ok, refl, ◌∙◌, ap, subst, eq-eqb, inl, inr}
 use Rattle.std.specs.Prelude.{◌==◌, option_and_then, option_map, unwrap_or}
 use Rattle.std.specs.Bool.{then_some}
 use Rattle.std.specs.Option.{ok_or, option_or}
@@ -9,11 +9,11 @@ use Rattle.std.proofs.lemmas.Bool.{cond-true, cond-false}
 use Rattle.ber_tlv.specs.Walk.{Object}
 use Rattle.file_rows.specs.declared.mode.Mode.{Mode}
 use Rattle.access_rules.specs.AccessRule.{AccessRule, Modes, allows, answer_of, covers}
-use Rattle.access_rules.specs.AccessRule.Modes.{Bits, Instructions}
-use Rattle.access_rules.specs.Condition.{Condition, holds}
+use Rattle.access_rules.specs.AccessRule.Modes.{Bits}
+use Rattle.access_rules.specs.Condition.{holds}
 use Rattle.access_rules.specs.Reading.{Read, byte_of, codes_of, condition_of, modes_of, object_at, rule_at, rule_with, rules_of}
 use Rattle.access_rules.specs.Record.{HasNoMore}
-use Rattle.access_rules.proofs.Objects.{by_test, eqb-not, of_some}
+use Rattle.access_rules.proofs.Objects.{eqb-not, of_some}
 use Rattle.access_rules.proofs.Meaning.{HasRule, ended, no_rule, no_rules, rule_shorter, rule_there, rules_step}
 
 not_tag : (tag n m : ℕ) → tag ≡ n → (n == m) ≡ false → (tag == m) ≡ false

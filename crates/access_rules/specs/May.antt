@@ -28,14 +28,19 @@ upwards (suc depth) directory = directory ∷ upwards depth (take depth director
 abbrev pub enclosing : List ℕ → List (List ℕ)
 enclosing directory = upwards (length directory) directory
 
--- the directory from which the EF ARR of a file is looked for: the one that holds the file; for the MF the MF
+-- the directory from which the EF ARR of a file is looked for: the one that holds the file; for
+-- the MF the MF
 abbrev pub rule_directory : List ℕ → List ℕ
 rule_directory path = unwrap_or (parent_of path) []
 
+-- the linear file with that identifier in a directory
+abbrev pub linear_in : List FileRow → ℕ → List ℕ → Option FileRow
+linear_in rows id directory =
+    only (λ row. is_linear row.head.kind) (file_at (directory ++ id ∷ []) rows)
+
 -- the EF ARR: the linear file with that identifier in the nearest directory that has one
 abbrev pub arr_of : List FileRow → List ℕ → ℕ → Option FileRow
-arr_of rows path id =
-    first_of (map (λ directory. only (λ row. is_linear row.head.kind) (file_at (directory ++ id ∷ []) rows)) (enclosing (rule_directory path)))
+arr_of rows path id = first_of (map (linear_in rows id) (enclosing (rule_directory path)))
 
 -- a record by its number, counted from 1
 abbrev pub record_at : FileRow → ℕ → Option (List ℕ)
@@ -45,17 +50,26 @@ record_at row number =
     then Some (take size (drop ((number - 1) * size) row.body))
     else None
 
+-- the record that a rule of the file at a path names
+abbrev pub record_named : List FileRow → List ℕ → Rule → Option (List ℕ)
+record_named rows path rule =
+    option_and_then (λ arr. record_at arr rule.row) (arr_of rows path rule.file)
+
 -- the record that a file's rule names
 abbrev pub rule_record : List FileRow → FileRow → Option (List ℕ)
-rule_record rows row =
-    option_and_then (λ (rule : Rule). option_and_then (λ arr. record_at arr rule.row) (arr_of rows row.head.path rule.file)) row.head.rule
+rule_record rows row = option_and_then (record_named rows row.head.path) row.head.rule
 
 -- what a record allows: nothing where it is malformed
 abbrev pub record_allows : List ℕ → Mode → (ℕ → Bool) → Bool
-record_allows bytes mode met = unwrap_or (option_map (λ rules. allows rules mode met) (rules_of bytes)) false
+record_allows bytes mode met =
+    unwrap_or (option_map (λ rules. allows rules mode met) (rules_of bytes)) false
 
--- whether the file at a path may be used in a mode where these keys are met: never without such a file, a rule, or the
--- record that it names
+-- the record that decides on the file at a path
+abbrev pub record_for : List FileRow → List ℕ → Option (List ℕ)
+record_for rows path = option_and_then (rule_record rows) (file_at path rows)
+
+-- whether the file at a path may be used in a mode where these keys are met: never without such a
+-- file, a rule, or the record that it names
 abbrev pub may : List FileRow → List ℕ → Mode → (ℕ → Bool) → Bool
 may rows path mode met =
-    unwrap_or (option_map (λ bytes. record_allows bytes mode met) (option_and_then (rule_record rows) (file_at path rows))) false
+    unwrap_or (option_map (λ bytes. record_allows bytes mode met) (record_for rows path)) false

@@ -32,14 +32,18 @@ met pins verified directory key =
 abbrev pub is_set : ℕ → ℕ → Bool
 is_set verified number = bit_at verified (number - 1) == 1
 
--- the directory from which the keys of a file's rule are looked for: a directory's own, and that which holds an EF
+-- the directory from which the keys of a file's rule are looked for: a directory's own, and that
+-- which holds an EF
 abbrev pub key_directory : FileRow → List ℕ
-key_directory row = if holds_files row.head.kind then row.head.path else rule_directory row.head.path
+key_directory row =
+    if holds_files row.head.kind then row.head.path else rule_directory row.head.path
 
 abbrev pub met_for : List PinRow → (ℕ → Bool) → Option FileRow → ℕ → Bool
-met_for pins verified file key = unwrap_or (option_map (λ row. met pins verified (key_directory row) key) file) false
+met_for pins verified file key =
+    unwrap_or (option_map (λ row. met pins verified (key_directory row) key) file) false
 
--- whether a card with this content, where these PINs are verified, lets the file at a path be used in a mode
+-- whether a card with this content, where these PINs are verified, lets the file at a path be used
+-- in a mode
 abbrev pub allowed : Content → (ℕ → Bool) → List ℕ → Mode → Bool
 allowed content verified path mode =
     may content.rows path mode (met_for content.pins verified (file_at path content.rows))

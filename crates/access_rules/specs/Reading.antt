@@ -1,5 +1,5 @@
--- How the bytes of a record are read: by cases, from the first byte on. `records_have_one_meaning` says
--- that this is what the bytes spell.
+-- How the bytes of a record are read: by cases, from the first byte on. `records_have_one_meaning`
+-- says that this is what the bytes spell.
 use Rattle.std.specs.Prelude.{ℕ, zero, suc, ◌+◌, ◌*◌, ◌%◌, ◌==◌, ◌&&◌, nat_le, nat_lt, if◌then◌else◌, List, [], ◌∷◌, length, take, drop, Option, Some, None, option_and_then, option_map}
 use Rattle.ber_tlv.specs.Walk.{Object}
 use Rattle.access_rules.specs.AccessRule.{AccessRule, Modes}

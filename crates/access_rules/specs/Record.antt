@@ -1,4 +1,5 @@
--- The bytes of a record of an EF ARR (ETSI TS 102 221, access rules in expanded format; ISO/IEC 7816-4).
+-- The bytes of a record of an EF ARR (ETSI TS 102 221, access rules in expanded format; ISO/IEC
+-- 7816-4).
 use Rattle.std.specs.Prelude.{◌≡◌, ◌≢◌, ◌≤◌, ◌⊎◌, ℕ, List, [], ◌∷◌, ⊤}
 use Rattle.ber_tlv.specs.Tlv.{BeginsWith}
 use Rattle.ber_tlv.specs.Walk.{LeadWith, Object}
@@ -18,16 +19,19 @@ abbrev pub key_objects : ℕ → List Object
 key_objects key =
     record { tag = 0x83; value = key ∷ [] } ∷ record { tag = 0x95; value = 0x08 ∷ [] } ∷ []
 
--- a security condition data object: `90` always, `97` never, `A4` a key, `A0` one of its list, `AF` all of its list
+-- a security condition data object: `90` always, `97` never, `A4` a key, `A0` one of its list,
+-- `AF` all of its list
 abbrev mutual
   pub IsCondition : Object → Condition → Type 0
   IsCondition object Always = (object.tag ≡ 0x90) × (object.value ≡ [])
   IsCondition object Never = (object.tag ≡ 0x97) × (object.value ≡ [])
   IsCondition object (Key key) = (object.tag ≡ 0xA4) × LeadWith object.value (key_objects key) []
-  IsCondition object (OneOf conditions) =
-      (object.tag ≡ 0xA0) × ((objects : List Object) × LeadWith object.value objects [] × AreConditions objects conditions)
-  IsCondition object (AllOf conditions) =
-      (object.tag ≡ 0xAF) × ((objects : List Object) × LeadWith object.value objects [] × AreConditions objects conditions)
+  IsCondition object (OneOf conditions) = (object.tag ≡ 0xA0)
+      × ((objects : List Object) × LeadWith object.value objects []
+      × AreConditions objects conditions)
+  IsCondition object (AllOf conditions) = (object.tag ≡ 0xAF)
+      × ((objects : List Object) × LeadWith object.value objects []
+      × AreConditions objects conditions)
 
   pub AreConditions : List Object → Conditions → Type 0
   AreConditions [] NoMore = ⊤
@@ -54,4 +58,5 @@ pub record BeginsWithRule (bytes : List ℕ) (rule : AccessRule) (rest : List �
 -- the bytes of a record spell these rules
 abbrev pub SpellsRules : List ℕ → List AccessRule → Type 0
 SpellsRules bytes [] = HasNoMore bytes
-SpellsRules bytes (rule ∷ rules) = (rest : List ℕ) × BeginsWithRule bytes rule rest × SpellsRules rest rules
+SpellsRules bytes (rule ∷ rules) =
+    (rest : List ℕ) × BeginsWithRule bytes rule rest × SpellsRules rest rules

@@ -12,8 +12,8 @@ use ber_tlv::Tlv;
 
 // The key reference and then the usage qualifier, which asks for user authentication.
 fn key_holds(value: &[u8], met: &KeySet) -> Result<bool, RuleFault>
-    ensures { result ≡ ok_or (option_map (has met.now) (option_and_then key_of (objects_of value.now)))
-        RuleFault.Malformed }
+    ensures { result ≡ ok_or (option_map (has met.now)
+        (option_and_then key_of (objects_of value.now))) RuleFault.Malformed }
 {
     let (reference, rest) = first_object(value)?;
     let (usage, rest) = first_object(rest)?;

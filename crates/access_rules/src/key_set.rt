@@ -20,7 +20,8 @@ impl KeySet {
 
     /// Puts a key into the set or takes it out.
     pub(crate) fn put(&mut self, key: u8, is_in: bool)
-        ensures { (other : ℕ) → has self.new other ≡ (if other == key then is_in else has self.old other) }
+        ensures { (other : ℕ) → has self.new other
+            ≡ (if other == key then is_in else has self.old other) }
     {
         self.keys[usize::from(key)] = is_in;
     }

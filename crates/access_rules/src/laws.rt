@@ -1,5 +1,5 @@
 //! What holds of access rules, whoever reads them.
-ghost use Rattle.std.specs.Prelude.{◌≡◌, ◌↔◌, ℕ, Bool, true, false, IsTrue, List, Some, option_and_then};
+ghost use Rattle.std.specs.Prelude.{◌≡◌, ◌↔◌, ℕ, Bool, true, false, IsTrue, List, Some};
 ghost use Rattle.file_rows.specs.Content.{file_at};
 ghost use Rattle.file_rows.specs.declared.content.Content.{Content};
 ghost use Rattle.file_rows.specs.declared.mode.Mode.{Mode};
@@ -8,12 +8,13 @@ ghost use Rattle.file_rows.specs.declared.row.FileRow.{FileRow};
 ghost use Rattle.access_rules.specs.AccessRule.{AccessRule};
 ghost use Rattle.access_rules.specs.Condition.{holds};
 ghost use Rattle.access_rules.specs.Condition.Condition.{Always, Never};
-ghost use Rattle.access_rules.specs.May.{may, rule_record};
+ghost use Rattle.access_rules.specs.May.{may, record_for};
 ghost use Rattle.access_rules.specs.Met.{allowed, met, met_for, pin_for};
 ghost use Rattle.access_rules.specs.Reading.{rules_of};
 ghost use Rattle.access_rules.specs.Record.{SpellsRules};
 
-/// A record has one meaning or is malformed: the rules that are read are those that its bytes spell.
+/// A record has one meaning or is malformed: the rules that are read are those that its bytes
+/// spell.
 pub fn records_have_one_meaning()
     ensures { (bytes : List ℕ) (rules : List AccessRule)
         → (rules_of bytes ≡ Some rules) ↔ SpellsRules bytes rules }
@@ -34,8 +35,7 @@ pub fn always_and_never()
 /// A file's answer depends on the record that its rule names and on the keys met for it, alone.
 pub fn answers_by_the_record_named()
     ensures { (content other : Content) (verified : ℕ → Bool) (path : List ℕ) (mode : Mode)
-        → option_and_then (rule_record content.rows) (file_at path content.rows)
-        ≡ option_and_then (rule_record other.rows) (file_at path other.rows)
+        → record_for content.rows path ≡ record_for other.rows path
         → met_for content.pins verified (file_at path content.rows)
         ≡ met_for other.pins verified (file_at path other.rows)
         → allowed content verified path mode ≡ allowed other verified path mode }

@@ -1,8 +1,7 @@
 //! Which keys the PINs of a card meet.
-ghost use Rattle.std.specs.Prelude.{◌≡◌, ℕ, ◌≤◌, Bool, if◌then◌else◌, length};
+ghost use Rattle.std.specs.Prelude.{◌≡◌, ℕ, option_map, unwrap_or};
 ghost use Rattle.access_rules.specs.KeySet.{has};
 ghost use Rattle.access_rules.specs.Met.{counts, is_set, met, pin_at};
-ghost use Rattle.std.specs.Prelude.{option_map, unwrap_or};
 
 use crate::KeySet;
 use file_rows::{Path, PinRow};
@@ -22,8 +21,8 @@ fn counts(pin: &PinRow, verified: u32) -> bool
 
 // Puts the keys of the PINs at home in one directory in place of those found above it.
 fn put_keys_at(keys: &mut KeySet, pins: &[PinRow], home: &[u16], verified: u32)
-    ensures { (key : ℕ) → has keys.new key
-        ≡ unwrap_or (option_map (counts (is_set verified)) (pin_at pins.now key home.now)) (has keys.old key) }
+    ensures { (key : ℕ) → has keys.new key ≡ unwrap_or
+        (option_map (counts (is_set verified)) (pin_at pins.now key home.now)) (has keys.old key) }
 {
     let mut left = pins.len();
     while left > 0 {
@@ -35,9 +34,10 @@ fn put_keys_at(keys: &mut KeySet, pins: &[PinRow], home: &[u16], verified: u32)
     }
 }
 
-/// The keys that are met for a file whose keys are looked for from this directory upwards: those whose
-/// nearest PIN is disabled, or verified by its bit, which is bit `number - 1` (ETSI TS 102 221, PIN and
-/// key references). It goes through the PINs once for each directory on the path, at most five times.
+/// The keys that are met for a file whose keys are looked for from this directory upwards: those
+/// whose nearest PIN is disabled, or verified by its bit, which is bit `number - 1` (ETSI TS 102
+/// 221, PIN and key references). It goes through the PINs once for each directory on the path, at
+/// most five times.
 pub fn met_keys(pins: &[PinRow], directory: &Path, verified: u32) -> KeySet
     ensures { (key : ℕ) → has result key ≡ met pins.now (is_set verified) directory.now key }
 {

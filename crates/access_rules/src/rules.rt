@@ -1,5 +1,6 @@
 //! What the rules of a record allow. Each call here goes through the record's bytes once, in a few
-//! instructions for a byte, and takes no memory; conditions nest at most 8 deep, and so do its calls.
+//! instructions for a byte, and takes no memory; conditions nest at most 8 deep, and so do its
+//! calls.
 ghost use Rattle.std.specs.Prelude.{◌≡◌, ◌↔◌, ◌==◌, ℕ, Bool, List, Option, IsTrue, MatchResult, Some, None, option_map, if◌then◌else◌};
 ghost use Rattle.std.specs.List.{list_any};
 ghost use Rattle.std.specs.Option.{ok_or};
@@ -64,7 +65,8 @@ fn first_rule<'a>(
     met: &KeySet,
 ) -> Result<(Option<bool>, &'a [u8]), RuleFault>
     ensures { MatchResult result
-        (λ r. option_map {U = Option Bool × List ℕ} (λ (read : Read AccessRule). (answer_of mode (has met.now) read.found, read.behind))
+        (λ r. option_map {U = Option Bool × List ℕ}
+        (λ (read : Read AccessRule). (answer_of mode (has met.now) read.found, read.behind))
         (rule_at bytes.now) ≡ Some (r.0, r.1.now))
         (λ _. rule_at bytes.now ≡ None) }
 {
@@ -97,16 +99,16 @@ fn decide(bytes: &[u8], mode: Mode, met: &KeySet) -> Result<bool, RuleFault>
     Ok(decided.unwrap_or(false))
 }
 
-/// The rules of a record of an EF ARR (ETSI TS 102 221, access rules in expanded format), where they
-/// lie. Contracts see the list of them.
+/// The rules of a record of an EF ARR (ETSI TS 102 221, access rules in expanded format), where
+/// they lie. Contracts see the list of them.
 #[derive(Clone, Copy, Debug, PartialEq, Eq)]
 pub struct Rules<'a> {
     bytes: &'a [u8],
 }
 
 impl Rules<'_> {
-    /// Whether the rules allow the mode where these keys are met: the first rule that covers the mode
-    /// decides, and without one nothing is allowed.
+    /// Whether the rules allow the mode where these keys are met: the first rule that covers the
+    /// mode decides, and without one nothing is allowed.
     pub fn allows(&self, mode: Mode, met: &KeySet) -> bool
         ensures { result ≡ allows (list_of self.now) mode (has met.now) }
     {
@@ -123,8 +125,8 @@ pub fn read_rules(bytes: &[u8]) -> Result<Rules<'_>, RuleFault>
     Ok(Rules { bytes })
 }
 
-/// Whether a record of an EF ARR allows the mode where these keys are met. A malformed record allows
-/// nothing, wherever the fault in it lies.
+/// Whether a record of an EF ARR allows the mode where these keys are met. A malformed record
+/// allows nothing, wherever the fault in it lies.
 pub fn record_allows(bytes: &[u8], mode: Mode, met: &KeySet) -> bool
     ensures { result ≡ record_allows bytes.now mode (has met.now) }
 {

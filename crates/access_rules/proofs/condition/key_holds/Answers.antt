@@ -1,7 +1,5 @@
-use Rattle.std.proofs.Common.{ap, arith, inl, inr, sym, ◌∙◌, Some, option_map, rules}
-use Rattle.std.specs.Option.{ok_or}
+use Rattle.std.proofs.Common.{ap, inl, inr, sym, ◌∙◌, Some, option_map}
 use Rattle.std.proofs.lemmas.Result.{err_from_is_err_and}
-use Rattle.ber_tlv.specs.Walk.{object_of}
 use Rattle.access_rules.specs.KeySet.{has}
 use Rattle.access_rules.proofs.Deciding.{fault_is, value_is}
 use Rattle.access_rules.proofs.Keys.{found, gave_up, is_empty, no_qualifier, no_reference, no_usage, not_empty, other_qualifier, other_tags, refused, the_key, too_many}

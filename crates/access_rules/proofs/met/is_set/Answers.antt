@@ -1,4 +1,3 @@
-use Rattle.std.proofs.Common.{arith}
 use Rattle.access_rules.proofs.Finding.{unset}
 use Rattle.access_rules.proofs.met.is_set.Goals as goal
 

@@ -2,9 +2,8 @@ use Rattle.std.proofs.Common.{Bool, Option, ap, sym, ◌∙◌, Some}
 use Rattle.std.proofs.lemmas.Result.{err_from_is_err_and}
 use Rattle.ber_tlv.specs.Walk.{object_of}
 use Rattle.access_rules.specs.AccessRule.{covers}
-use Rattle.access_rules.specs.Condition.{holds}
 use Rattle.access_rules.specs.KeySet.{has}
-use Rattle.access_rules.specs.Reading.{condition_of, modes_of}
+use Rattle.access_rules.specs.Reading.{modes_of}
 use Rattle.access_rules.proofs.Deciding.{fault_is, none_answered, value_is}
 use Rattle.access_rules.proofs.Keys.{failed}
 use Rattle.access_rules.proofs.Passing.{had, no_condition, no_condition_object, no_modes, no_modes_object, none_covered, the_rule, then_some_is}

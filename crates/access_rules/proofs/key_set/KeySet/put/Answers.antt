@@ -1,5 +1,4 @@
-use Rattle.std.proofs.Common.{◌≡◌, ◌<◌, length, arith, rules}
-use Rattle.std.proofs.Math.ListN.{set}
+use Rattle.std.proofs.Common.{◌<◌, length, arith}
 use Rattle.access_rules.specs.KeySet.{has}
 use Rattle.access_rules.proofs.Keys.{put_read}
 use Rattle.access_rules.proofs.key_set.KeySet.put.Goals as goal
