@@ -1,6 +1,6 @@
 -- What a pass over the bytes of a list of conditions comes to, object by object.
 use Rattle.std.proofs.Common.{◌≡◌, ℕ, zero, suc, ◌-◌, ◌<◌, length, Bool, true, false, List, [], ◌∷◌, Option, Some, None, Result, Ok, Err, refl, sym, ◌∙◌, ap, subst, arith, eq-eqb}
-use Rattle.std.specs.Prelude.{◌==◌, ◌&&◌, ◌||◌, option_and_then, option_map}
+use Rattle.std.specs.Prelude.{◌&&◌, ◌||◌, option_and_then, option_map}
 use Rattle.std.specs.Option.{ok_or}
 use Rattle.std.proofs.lemmas.Bool.{cond-true, cond-false}
 use Rattle.ber_tlv.specs.Walk.{Object}
@@ -10,7 +10,7 @@ use Rattle.access_rules.specs.Condition.{Condition, Conditions, all_hold, holds,
 use Rattle.access_rules.specs.Condition.Condition.{AllOf, Always, Key, Never, OneOf}
 use Rattle.access_rules.specs.Condition.Conditions.{Also, NoMore}
 use Rattle.access_rules.specs.Reading.{Read, condition_of, conditions_by, empty_or_none, key_of, object_at, objects_of}
-use Rattle.access_rules.proofs.Objects.{IsThere, eqb-not, no_objects, no_step, object_there, objects_step, of_some}
+use Rattle.access_rules.proofs.Objects.{IsThere, eqb-not, no_objects, no_step, object_there, objects_step, of_some, not_tag}
 use Rattle.ber_tlv.proofs.Walking.{shorter}
 
 pub fault_is : {A : Type 0} (o : Option A) (e : RuleFault) → Err e ≡ ok_or o Malformed → (o ≡ None) × (e ≡ Malformed)
@@ -107,9 +107,6 @@ and_unit None = refl
 and_unit (Some b) = refl
 
 -- what a condition comes to, by its tag
-not_tag : (tag n m : ℕ) → tag ≡ n → (n == m) ≡ false → (tag == m) ≡ false
-not_tag tag n m h k = rw h k
-
 module _ (met : ℕ → Bool) (o : Object) where
   abbrev pub answer_at : ℕ → Option Bool
   answer_at n = option_map (holds met) (condition_of n o)

@@ -1,6 +1,6 @@
 -- What is read of a condition, a rule and a record is what their bytes spell.
-use Rattle.std.proofs.Common.{◌≡◌, ℕ, zero, suc, ◌<◌, ◌≤◌, false, List, [], ◌∷◌, ◌++◌, length, Option, Some, None, refl, sym, ◌∙◌, ap, subst, arith, eq-eqb, inl, inr, ⊎_elim}
-use Rattle.std.specs.Prelude.{◌==◌, ◌↔◌, option_and_then, option_map}
+use Rattle.std.proofs.Common.{◌≡◌, ℕ, zero, suc, ◌<◌, ◌≤◌, List, [], ◌∷◌, ◌++◌, length, Option, Some, None, refl, sym, ◌∙◌, ap, subst, arith, eq-eqb, inl, inr, ⊎_elim}
+use Rattle.std.specs.Prelude.{◌↔◌, option_and_then, option_map}
 use Rattle.std.proofs.lemmas.Bool.{cond-true, cond-false}
 use Rattle.ber_tlv.specs.Walk.{LeadWith, Object}
 use Rattle.ber_tlv.proofs.Reading.{tag_of}
@@ -13,7 +13,7 @@ use Rattle.access_rules.specs.Condition.Condition.{AllOf, Always, Key, Never, On
 use Rattle.access_rules.specs.Condition.Conditions.{Also, NoMore}
 use Rattle.access_rules.specs.Reading.{Read, asks_for_user, byte_of, codes_of, condition_of, conditions_by, empty_or_none, key_of, modes_of, object_at, objects_of, rule_at, rule_with, rules_in, rules_of}
 use Rattle.access_rules.specs.Record.{AreConditions, BeginsWithRule, IsCondition, IsModes, SpellsRules, key_objects}
-use Rattle.access_rules.proofs.Objects.{IsThere, Sound, and_then, by_test, eqb-is, eqb-not, mapped, none, object_read, object_there, objects_fill, objects_read, of_some, same_values, some, weaken}
+use Rattle.access_rules.proofs.Objects.{IsThere, Sound, and_then, by_test, eqb-is, eqb-not, mapped, none, object_read, object_there, objects_fill, objects_read, of_some, same_values, some, weaken, not_tag}
 
 empty_there : {X : Type 0} (P : X → Type 0) (bytes : List ℕ) (x : X) → (bytes ≡ [] → P x) → Sound P (empty_or_none bytes x)
 empty_there P [] x h = some P x (h refl)
@@ -116,9 +116,6 @@ conditions_read one n h (o ∷ objects) (Also c cs) p k =
 filled : (bytes : List ℕ) (objects : List Object) → LeadWith bytes objects [] → objects_of bytes ≡ Some objects
 unfolding objects_of
 filled bytes objects p = objects_read objects (length bytes) bytes (omega arith) p
-
-not_tag : (tag n m : ℕ) → tag ≡ n → (n == m) ≡ false → (tag == m) ≡ false
-not_tag tag n m h k = rw h k
 
 empty_read : (bytes : List ℕ) (c : Condition) → bytes ≡ [] → empty_or_none bytes c ≡ Some c
 empty_read [] c e = refl

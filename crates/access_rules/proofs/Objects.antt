@@ -95,6 +95,10 @@ long_tag_there a (b ∷ c ∷ more) h i = by_test (Sound (HasTag (a ∷ b ∷ c 
 pub eqb-is : (a b : ℕ) → (a == b) ≡ true → a ≡ b
 eqb-is a b h = grind (arith, nat_tests)
 
+-- a tag that is another
+pub not_tag : (tag n m : ℕ) → tag ≡ n → (n == m) ≡ false → (tag == m) ≡ false
+not_tag tag n m h k = rw h k
+
 tag_there : (bytes : List ℕ) → Sound (HasTag bytes) (tag_at bytes)
 unfolding tag_at
 tag_there [] = none _

@@ -1,6 +1,6 @@
 -- What a pass over the rules of a record comes to, rule by rule.
 use Rattle.std.proofs.Common.{◌≡◌, ℕ, ◌<◌, Bool, true, false, cond, List, [], ◌∷◌, length, Option, Some, None, Ok, refl, ◌∙◌, ap, subst, eq-eqb, inl, inr}
-use Rattle.std.specs.Prelude.{◌==◌, option_and_then, option_map, unwrap_or}
+use Rattle.std.specs.Prelude.{option_and_then, option_map, unwrap_or}
 use Rattle.std.specs.Bool.{then_some}
 use Rattle.std.specs.Option.{ok_or, option_or}
 use Rattle.std.specs.Result.{result_unwrap_or}
@@ -13,11 +13,8 @@ use Rattle.access_rules.specs.AccessRule.Modes.{Bits}
 use Rattle.access_rules.specs.Condition.{holds}
 use Rattle.access_rules.specs.Reading.{Read, byte_of, codes_of, condition_of, modes_of, object_at, rule_at, rule_with, rules_of}
 use Rattle.access_rules.specs.Record.{HasNoMore}
-use Rattle.access_rules.proofs.Objects.{eqb-not, of_some}
+use Rattle.access_rules.proofs.Objects.{eqb-not, of_some, not_tag}
 use Rattle.access_rules.proofs.Meaning.{HasRule, ended, no_rule, no_rules, rule_shorter, rule_there, rules_step}
-
-not_tag : (tag n m : ℕ) → tag ≡ n → (n == m) ≡ false → (tag == m) ≡ false
-not_tag tag n m h k = rw h k
 
 module _ (mode : Mode) (o : Object) where
   abbrev pub covered : Option Bool
