@@ -1,0 +1,7 @@
+pub mod Deciding
+pub mod Finding
+pub mod Keeping
+pub mod Keys
+pub mod Meaning
+pub mod Objects
+pub mod Passing

@@ -1,0 +1,51 @@
+//! Which keys the PINs of a card meet.
+ghost use Rattle.std.specs.Prelude.{◌≡◌, ℕ, option_map, unwrap_or};
+ghost use Rattle.access_rules.specs.KeySet.{has};
+ghost use Rattle.access_rules.specs.Met.{counts, is_set, met, pin_at};
+
+use crate::KeySet;
+use file_rows::{Path, PinRow};
+
+fn is_set(verified: u32, number: u8) -> bool
+    ensures { result ≡ is_set verified number }
+{
+    let bit = number.saturating_sub(1);
+    bit < 32 && (verified >> bit) & 1 == 1
+}
+
+fn counts(pin: &PinRow, verified: u32) -> bool
+    ensures { result ≡ counts (is_set verified) pin.now }
+{
+    is_set(verified, pin.number) || !pin.enabled
+}
+
+// Puts the keys of the PINs at home in one directory in place of those found above it.
+fn put_keys_at(keys: &mut KeySet, pins: &[PinRow], home: &[u16], verified: u32)
+    ensures { (key : ℕ) → has keys.new key ≡ unwrap_or
+        (option_map (counts (is_set verified)) (pin_at pins.now key home.now)) (has keys.old key) }
+{
+    let mut left = pins.len();
+    while left > 0 {
+        left -= 1;
+        let pin = &pins[left];
+        if pin.home.as_slice() == home {
+            keys.put(pin.key, counts(pin, verified));
+        }
+    }
+}
+
+/// The keys that are met for a file whose keys are looked for from this directory upwards: those
+/// whose nearest PIN is disabled, or verified by its bit, which is bit `number - 1` (ETSI TS 102
+/// 221, PIN and key references). It goes through the PINs once for each directory on the path, at
+/// most five times.
+pub fn met_keys(pins: &[PinRow], directory: &Path, verified: u32) -> KeySet
+    ensures { (key : ℕ) → has result key ≡ met pins.now (is_set verified) directory.now key }
+{
+    let mut keys = KeySet::none();
+    put_keys_at(&mut keys, pins, &[], verified);
+    let path = directory.as_slice();
+    for depth in 0..path.len() {
+        put_keys_at(&mut keys, pins, &path[..depth + 1], verified);
+    }
+    keys
+}
