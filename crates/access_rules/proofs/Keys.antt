@@ -60,7 +60,7 @@ no_usage value r e h = after_one value r e ∙ ap (λ (o : Option (List Object))
         (λ k. ap (λ (o : Option (List Object)). option_and_then key_of (option_map (λ objects. r.found ∷ objects) o)) k)
         (rest r.behind h)
 
--- with two objects at the front
+-- beginning with two objects
 module _ (value : List ℕ) (reference usage : Object) (rest more : List ℕ)
     (first : object_at value ≡ Some (record { found = reference; behind = rest }))
     (second : object_at rest ≡ Some (record { found = usage; behind = more })) where

@@ -11,7 +11,7 @@ use Rattle.access_rules.specs.AccessRule.Modes.{Bits, Instructions}
 use Rattle.access_rules.specs.Condition.{Condition, Conditions, depth, greatest_depth}
 use Rattle.access_rules.specs.Condition.Condition.{AllOf, Always, Key, Never, OneOf}
 use Rattle.access_rules.specs.Condition.Conditions.{Also, NoMore}
-use Rattle.access_rules.specs.Reading.{Read, asks_for_user, byte_of, codes_of, condition_of, conditions_by, empty_or_none, key_of, modes_of, object_at, objects_of, rule_at, rule_with, rules_in, rules_of}
+use Rattle.access_rules.specs.Reading.{Read, asks_for_user, byte_of, codes_of, condition_of, conditions_by, empty_or_none, key_of, modes_of, object_at, objects_of, leading_rule, rule_with, rules_in, rules_of}
 use Rattle.access_rules.specs.Record.{AreConditions, BeginsWithRule, IsCondition, IsModes, SpellsRules, key_objects}
 use Rattle.access_rules.proofs.Objects.{IsThere, Sound, and_then, by_test, eqb-is, eqb-not, mapped, none, object_read, object_there, objects_fill, objects_read, of_some, same_values, some, weaken, not_tag}
 
@@ -176,8 +176,8 @@ modes_read o (Instructions codes) p =
 abbrev pub HasRule : List ℕ → Read AccessRule → Type 0
 HasRule bytes read = BeginsWithRule bytes read.found read.behind
 
-pub rule_there : (bytes : List ℕ) → Sound (HasRule bytes) (rule_at bytes)
-unfolding rule_at rule_with
+pub rule_there : (bytes : List ℕ) → Sound (HasRule bytes) (leading_rule bytes)
+unfolding leading_rule rule_with
 rule_there bytes =
     and_then _ (IsThere bytes) (HasRule bytes) (object_at bytes) (object_there bytes)
     (λ first p. and_then _ (IsModes first.found) (HasRule bytes) (modes_of first.found) (modes_there first.found)
@@ -185,8 +185,8 @@ rule_there bytes =
     (λ second r. mapped _ (λ c. IsCondition second.found c × (depth c ≤ 8)) (HasRule bytes) (condition_of 8 second.found) (condition_there 8 second.found)
     (λ c s. record { modes = first.found; condition = second.found; behind = first.behind; first = p; second = r; modes_are = q; condition_is = s.0; shallow = s.1 }))))
 
-rule_read : (bytes : List ℕ) (rule : AccessRule) (rest : List ℕ) → BeginsWithRule bytes rule rest → rule_at bytes ≡ Some (record { found = rule; behind = rest })
-unfolding rule_at rule_with
+rule_read : (bytes : List ℕ) (rule : AccessRule) (rest : List ℕ) → BeginsWithRule bytes rule rest → leading_rule bytes ≡ Some (record { found = rule; behind = rest })
+unfolding leading_rule rule_with
 rule_read bytes rule rest p =
     let build : Object → Condition → Read AccessRule = λ o c. record { found = record { modes = rule.modes; condition = c }; behind = rest } in
     ap (option_and_then (λ (read : Read Object). option_and_then (λ modes. rule_with modes read.behind) (modes_of read.found))) (object_read bytes p.modes p.behind p.first)
@@ -201,9 +201,9 @@ rule_shorter p = let s = shorter p.first in let t = shorter p.second in omega ar
 no_rule_at_ff : (bytes : List ℕ) (rule : AccessRule) (rest : List ℕ) → BeginsWithRule (0xFF ∷ bytes) rule rest → ⊥
 no_rule_at_ff bytes rule rest p =
     let t = tag_of p.first in
-    modes_tag p.modes rule.modes p.modes_are (λ e. large t.front _ p.modes.tag bytes t.tagged (sym t.whole) (omega arith)) (λ e. large t.front _ p.modes.tag bytes t.tagged (sym t.whole) (omega arith))
+    modes_tag p.modes rule.modes p.modes_are (λ e. large t.prefix _ p.modes.tag bytes t.tagged (sym t.whole) (omega arith)) (λ e. large t.prefix _ p.modes.tag bytes t.tagged (sym t.whole) (omega arith))
   where
-    large : (front x : List ℕ) (tag : ℕ) (bytes : List ℕ) → SpellsTag front tag → front ++ x ≡ 0xFF ∷ bytes → tag < 0xFF → ⊥
+    large : (prefix x : List ℕ) (tag : ℕ) (bytes : List ℕ) → SpellsTag prefix tag → prefix ++ x ≡ 0xFF ∷ bytes → tag < 0xFF → ⊥
     large [] x tag bytes p e h = absurd p
     large (a ∷ []) x tag bytes p e h = let i : a ≡ 0xFF = cc in absurd (omega arith)
     large (a ∷ b ∷ []) x tag bytes p e h = let i : a ≡ 0xFF = cc in absurd (omega arith)
@@ -224,7 +224,7 @@ rules_there zero (b ∷ bytes) = by_test (Sound (SpellsRules (b ∷ bytes))) _ _
     (λ t. none _)
 rules_there (suc most) (b ∷ bytes) = by_test (Sound (SpellsRules (b ∷ bytes))) _ _ _
     (λ t. some (SpellsRules (b ∷ bytes)) [] (inr (bytes, ap (λ x. x ∷ bytes) (eqb-is b 0xFF t))))
-    (λ t. and_then _ (HasRule (b ∷ bytes)) (SpellsRules (b ∷ bytes)) (rule_at (b ∷ bytes)) (rule_there (b ∷ bytes))
+    (λ t. and_then _ (HasRule (b ∷ bytes)) (SpellsRules (b ∷ bytes)) (leading_rule (b ∷ bytes)) (rule_there (b ∷ bytes))
     (λ read p. mapped (λ rules. read.found ∷ rules) (SpellsRules read.behind) (SpellsRules (b ∷ bytes)) (rules_in most read.behind) (rules_there most read.behind)
     (λ rules q. (read.behind, p, q))))
 
@@ -256,10 +256,10 @@ one_meaning bytes rules = (
 )
 
 -- the rules of a record, step by step
-pub rules_step : (b : ℕ) (bytes : List ℕ) (read : Read AccessRule) → (b ≡ 0xFF → ⊥) → rule_at (b ∷ bytes) ≡ Some read → rules_of (b ∷ bytes) ≡ option_map (λ rules. read.found ∷ rules) (rules_of read.behind)
+pub rules_step : (b : ℕ) (bytes : List ℕ) (read : Read AccessRule) → (b ≡ 0xFF → ⊥) → leading_rule (b ∷ bytes) ≡ Some read → rules_of (b ∷ bytes) ≡ option_map (λ rules. read.found ∷ rules) (rules_of read.behind)
 unfolding rules_of rules_in
 rules_step b bytes read n e =
-    let p : HasRule (b ∷ bytes) read = of_some (HasRule (b ∷ bytes)) (rule_at (b ∷ bytes)) read (rule_there (b ∷ bytes)) e in
+    let p : HasRule (b ∷ bytes) read = of_some (HasRule (b ∷ bytes)) (leading_rule (b ∷ bytes)) read (rule_there (b ∷ bytes)) e in
     let s = rule_shorter p in
     let i : rules_in (length bytes) read.behind ≡ rules_in (length read.behind) read.behind =
     same_values (SpellsRules read.behind) _ _
@@ -270,7 +270,7 @@ rules_step b bytes read n e =
     ∙ ap (option_and_then (λ (read : Read AccessRule). option_map (λ rules. read.found ∷ rules) (rules_in (length bytes) read.behind))) e
     ∙ ap (option_map (λ rules. read.found ∷ rules)) i
 
-pub no_rule : (b : ℕ) (bytes : List ℕ) → (b ≡ 0xFF → ⊥) → rule_at (b ∷ bytes) ≡ None → rules_of (b ∷ bytes) ≡ None
+pub no_rule : (b : ℕ) (bytes : List ℕ) → (b ≡ 0xFF → ⊥) → leading_rule (b ∷ bytes) ≡ None → rules_of (b ∷ bytes) ≡ None
 unfolding rules_of rules_in
 no_rule b bytes n e =
     cond-false _ _ _ (eqb-not b 0xFF n)

@@ -81,15 +81,15 @@ long_tag_there : (a : ℕ) (more : List ℕ) → a < 256 → a % 32 ≡ 31 → S
 unfolding long_tag
 long_tag_there a [] h i = none _
 long_tag_there a (b ∷ []) h i = by_test (Sound (HasTag (a ∷ b ∷ []))) _ _ _
-    (λ t. some _ _ (record { front = a ∷ b ∷ []; tagged = (h, i, ltb-true b 128 t, refl); whole = refl }))
+    (λ t. some _ _ (record { prefix = a ∷ b ∷ []; tagged = (h, i, ltb-true b 128 t, refl); whole = refl }))
     (λ t. none _)
 long_tag_there a (b ∷ c ∷ more) h i = by_test (Sound (HasTag (a ∷ b ∷ c ∷ more))) _ _ _
-    (λ t. some _ _ (record { front = a ∷ b ∷ []; tagged = (h, i, ltb-true b 128 t, refl); whole = refl }))
+    (λ t. some _ _ (record { prefix = a ∷ b ∷ []; tagged = (h, i, ltb-true b 128 t, refl); whole = refl }))
     (λ t. by_test (Sound (HasTag (a ∷ b ∷ c ∷ more))) _ _ _
     (λ u.
     let v = both (nat_lt 128 b && nat_lt b 256) (nat_lt c 128) u in
     let w = both (nat_lt 128 b) (nat_lt b 256) v.0 in
-    some _ _ (record { front = a ∷ b ∷ c ∷ []; tagged = (h, i, ltb-true 128 b w.0, ltb-true b 256 w.1, ltb-true c 128 v.1, refl); whole = refl }))
+    some _ _ (record { prefix = a ∷ b ∷ c ∷ []; tagged = (h, i, ltb-true 128 b w.0, ltb-true b 256 w.1, ltb-true c 128 v.1, refl); whole = refl }))
     (λ u. none _))
 
 pub eqb-is : (a b : ℕ) → (a == b) ≡ true → a ≡ b
@@ -105,7 +105,7 @@ tag_there [] = none _
 tag_there (a ∷ more) = by_test (Sound (HasTag (a ∷ more))) _ _ _
     (λ t. by_test (Sound (HasTag (a ∷ more))) _ _ _
     (λ u. long_tag_there a more (ltb-true a 256 t) (eqb-is (a % 32) 31 u))
-    (λ u. some _ _ (record { front = a ∷ []; tagged = (ltb-true a 256 t, eqb-false (a % 32) 31 u, refl); whole = refl })))
+    (λ u. some _ _ (record { prefix = a ∷ []; tagged = (ltb-true a 256 t, eqb-false (a % 32) 31 u, refl); whole = refl })))
     (λ t. none _)
 
 long_length_there : (a : ℕ) (more : List ℕ) → Sound (HasLength (a ∷ more)) (long_length a more)
@@ -265,7 +265,7 @@ object_read bytes object rest p =
     let t = tag_of p in
     let l = length_of p in
     let whole : tag_at bytes ≡ Some (record { found = object.tag; behind = p.spelled.size ++ object.value ++ rest }) =
-    ap tag_at t.whole ∙ tag_read t.front _ object.tag t.tagged in
+    ap tag_at t.whole ∙ tag_read t.prefix _ object.tag t.tagged in
     let sized : length_at (p.spelled.size ++ object.value ++ rest) ≡ Some (record { found = length object.value; behind = object.value ++ rest }) =
     ap length_at l.whole ∙ length_read l.size _ (length object.value) l.sized in
     ap (option_and_then (λ (tag : Read ℕ). option_and_then (value_at tag.found) (length_at tag.behind))) whole

@@ -11,7 +11,7 @@ use Rattle.file_rows.specs.declared.mode.Mode.{Mode}
 use Rattle.access_rules.specs.AccessRule.{AccessRule, Modes, allows, answer_of, covers}
 use Rattle.access_rules.specs.AccessRule.Modes.{Bits}
 use Rattle.access_rules.specs.Condition.{holds}
-use Rattle.access_rules.specs.Reading.{Read, byte_of, codes_of, condition_of, modes_of, object_at, rule_at, rule_with, rules_of}
+use Rattle.access_rules.specs.Reading.{Read, byte_of, codes_of, condition_of, modes_of, object_at, leading_rule, rule_with, rules_of}
 use Rattle.access_rules.specs.Record.{HasNoMore}
 use Rattle.access_rules.proofs.Objects.{eqb-not, of_some, not_tag}
 use Rattle.access_rules.proofs.Meaning.{HasRule, ended, no_rule, no_rules, rule_shorter, rule_there, rules_step}
@@ -47,44 +47,44 @@ had f (Some x) y h = (x, refl, cc)
 
 -- what a rule comes to, by its parts
 module _ (bytes : List ℕ) where
-  pub no_modes_object : object_at bytes ≡ None → rule_at bytes ≡ None
-  unfolding rule_at
+  pub no_modes_object : object_at bytes ≡ None → leading_rule bytes ≡ None
+  unfolding leading_rule
   no_modes_object e = ap (option_and_then (λ (read : Read Object). option_and_then (λ modes. rule_with modes read.behind) (modes_of read.found))) e
 
-  pub no_modes : (o : Object) (rest : List ℕ) → object_at bytes ≡ Some (record { found = o; behind = rest }) → modes_of o ≡ None → rule_at bytes ≡ None
-  unfolding rule_at
+  pub no_modes : (o : Object) (rest : List ℕ) → object_at bytes ≡ Some (record { found = o; behind = rest }) → modes_of o ≡ None → leading_rule bytes ≡ None
+  unfolding leading_rule
   no_modes o rest e h =
       ap (option_and_then (λ (read : Read Object). option_and_then (λ modes. rule_with modes read.behind) (modes_of read.found))) e
       ∙ ap (option_and_then (λ modes. rule_with modes rest)) h
 
-  with_modes : (o : Object) (rest : List ℕ) (modes : Modes) → object_at bytes ≡ Some (record { found = o; behind = rest }) → modes_of o ≡ Some modes → rule_at bytes ≡ rule_with modes rest
-  unfolding rule_at
+  with_modes : (o : Object) (rest : List ℕ) (modes : Modes) → object_at bytes ≡ Some (record { found = o; behind = rest }) → modes_of o ≡ Some modes → leading_rule bytes ≡ rule_with modes rest
+  unfolding leading_rule
   with_modes o rest modes e h =
       ap (option_and_then (λ (read : Read Object). option_and_then (λ modes. rule_with modes read.behind) (modes_of read.found))) e
       ∙ ap (option_and_then (λ modes. rule_with modes rest)) h
 
   pub no_condition_object : (o : Object) (rest : List ℕ) (modes : Modes) → object_at bytes ≡ Some (record { found = o; behind = rest }) → modes_of o ≡ Some modes
-      → object_at rest ≡ None → rule_at bytes ≡ None
+      → object_at rest ≡ None → leading_rule bytes ≡ None
   unfolding rule_with
   no_condition_object o rest modes e h k = with_modes o rest modes e h
       ∙ ap (option_and_then (λ (read : Read Object). option_map (λ condition. record { found = record { modes = modes; condition = condition }; behind = read.behind }) (condition_of 8 read.found))) k
 
   with_condition : (o p : Object) (rest more : List ℕ) (modes : Modes) → object_at bytes ≡ Some (record { found = o; behind = rest }) → modes_of o ≡ Some modes
       → object_at rest ≡ Some (record { found = p; behind = more })
-      → rule_at bytes ≡ option_map (λ condition. record { found = record { modes = modes; condition = condition }; behind = more }) (condition_of 8 p)
+      → leading_rule bytes ≡ option_map (λ condition. record { found = record { modes = modes; condition = condition }; behind = more }) (condition_of 8 p)
   unfolding rule_with
   with_condition o p rest more modes e h k = with_modes o rest modes e h
       ∙ ap (option_and_then (λ (read : Read Object). option_map (λ condition. record { found = record { modes = modes; condition = condition }; behind = read.behind }) (condition_of 8 read.found))) k
 
   pub no_condition : (o p : Object) (rest more : List ℕ) (modes : Modes) → object_at bytes ≡ Some (record { found = o; behind = rest }) → modes_of o ≡ Some modes
-      → object_at rest ≡ Some (record { found = p; behind = more }) → condition_of 8 p ≡ None → rule_at bytes ≡ None
+      → object_at rest ≡ Some (record { found = p; behind = more }) → condition_of 8 p ≡ None → leading_rule bytes ≡ None
   no_condition o p rest more modes e h k l = with_condition o p rest more modes e h k
       ∙ ap (option_map (λ condition. record { found = record { modes = modes; condition = condition }; behind = more })) l
 
   pub the_rule : (mode : Mode) (met : ℕ → Bool) (o p : Object) (rest more : List ℕ) (covered holding : Bool)
       → object_at bytes ≡ Some (record { found = o; behind = rest }) → option_map (λ modes. covers modes mode) (modes_of o) ≡ Some covered
       → object_at rest ≡ Some (record { found = p; behind = more }) → option_map (holds met) (condition_of 8 p) ≡ Some holding
-      → option_map {U = Option Bool × List ℕ} (λ (read : Read AccessRule). (answer_of mode met read.found, read.behind)) (rule_at bytes) ≡ Some (cond covered (Some holding) None, more)
+      → option_map {U = Option Bool × List ℕ} (λ (read : Read AccessRule). (answer_of mode met read.found, read.behind)) (leading_rule bytes) ≡ Some (cond covered (Some holding) None, more)
   the_rule mode met o p rest more covered holding e h k l =
       let m = had (λ modes. covers modes mode) (modes_of o) covered h in
       let n = had (holds met) (condition_of 8 p) holding l in
@@ -117,17 +117,17 @@ at_end mode met before bytes (inr p) =
     ap (λ (x : List ℕ). option_map (λ rules. unwrap_or before (allows rules mode met)) (rules_of x)) p.1
     ∙ ap (option_map (λ rules. unwrap_or before (allows rules mode met))) (ended 0xFF p.0 refl)
 
-pub broken_rule : (mode : Mode) (met : ℕ → Bool) (before : Option Bool) (bytes : List ℕ) → ¬ HasNoMore bytes → rule_at bytes ≡ None → decided_by mode met before bytes ≡ None
+pub broken_rule : (mode : Mode) (met : ℕ → Bool) (before : Option Bool) (bytes : List ℕ) → ¬ HasNoMore bytes → leading_rule bytes ≡ None → decided_by mode met before bytes ≡ None
 broken_rule mode met before [] n e = absurd (n (inl refl))
 broken_rule mode met before (b ∷ bytes) n e =
     ap (option_map (λ rules. unwrap_or before (allows rules mode met))) (no_rule b bytes (λ h. n (inr (bytes, ap (λ x. x ∷ bytes) h))) e)
 
 pub next_rule : (mode : Mode) (met : ℕ → Bool) (whole before answer : Option Bool) (bytes behind : List ℕ) → ¬ HasNoMore bytes
-    → option_map {U = Option Bool × List ℕ} (λ (read : Read AccessRule). (answer_of mode met read.found, read.behind)) (rule_at bytes) ≡ Some (answer, behind)
+    → option_map {U = Option Bool × List ℕ} (λ (read : Read AccessRule). (answer_of mode met read.found, read.behind)) (leading_rule bytes) ≡ Some (answer, behind)
     → whole ≡ decided_by mode met before bytes → whole ≡ decided_by mode met (option_or before answer) behind
 next_rule mode met whole before answer [] behind n e w = absurd (n (inl refl))
 next_rule mode met whole before answer (b ∷ bytes) behind n e w =
-    let r = had (λ (read : Read AccessRule). (answer_of mode met read.found, read.behind)) (rule_at (b ∷ bytes)) (answer, behind) e in
+    let r = had (λ (read : Read AccessRule). (answer_of mode met read.found, read.behind)) (leading_rule (b ∷ bytes)) (answer, behind) e in
     let same : answer_of mode met r.0.found ≡ answer = ap (λ (p : Option Bool × List ℕ). p.0) r.2 in
     let rest : r.0.behind ≡ behind = ap (λ (p : Option Bool × List ℕ). p.1) r.2 in
     w ∙ ap (option_map (λ rules. unwrap_or before (allows rules mode met))) (rules_step b bytes r.0 (λ h. n (inr (bytes, ap (λ x. x ∷ bytes) h))) r.1)
@@ -145,11 +145,11 @@ next_rule mode met whole before answer (b ∷ bytes) behind n e w =
     through rule (Some rules) = ap Some (ap (unwrap_or before) (allows-cons mode met rule rules) ∙ or_unwrap before (answer_of mode met rule) (allows rules mode met))
 
 pub rule_behind_shorter : (mode : Mode) (met : ℕ → Bool) (answer : Option Bool) (bytes behind : List ℕ)
-    → option_map {U = Option Bool × List ℕ} (λ (read : Read AccessRule). (answer_of mode met read.found, read.behind)) (rule_at bytes) ≡ Some (answer, behind) → length behind < length bytes
+    → option_map {U = Option Bool × List ℕ} (λ (read : Read AccessRule). (answer_of mode met read.found, read.behind)) (leading_rule bytes) ≡ Some (answer, behind) → length behind < length bytes
 rule_behind_shorter mode met answer bytes behind e =
-    let r = had (λ (read : Read AccessRule). (answer_of mode met read.found, read.behind)) (rule_at bytes) (answer, behind) e in
+    let r = had (λ (read : Read AccessRule). (answer_of mode met read.found, read.behind)) (leading_rule bytes) (answer, behind) e in
     let rest : r.0.behind ≡ behind = ap (λ (p : Option Bool × List ℕ). p.1) r.2 in
-    let p : HasRule bytes r.0 = of_some (HasRule bytes) (rule_at bytes) r.0 (rule_there bytes) r.1 in
+    let p : HasRule bytes r.0 = of_some (HasRule bytes) (leading_rule bytes) r.0 (rule_there bytes) r.1 in
     subst (λ (x : List ℕ). length x < length bytes) rest (rule_shorter p)
 
 pub then_some_is : (b x : Bool) → then_some b x ≡ cond b (Some x) None

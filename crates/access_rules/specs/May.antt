@@ -1,24 +1,15 @@
 -- Who may do what with a file (ETSI TS 102 221, access rules referenced in EF ARR).
-use Rattle.std.specs.Prelude.{ℕ, suc, zero, ◌-◌, ◌*◌, Bool, true, false, ◌&&◌, nat_le, if◌then◌else◌, List, [], ◌∷◌, ◌++◌, length, map, take, drop, Option, Some, None, option_and_then, option_map, unwrap_or}
+use Rattle.std.specs.Prelude.{ℕ, suc, zero, ◌-◌, ◌*◌, Bool, false, ◌&&◌, nat_le, if◌then◌else◌, List, [], ◌∷◌, ◌++◌, length, map, take, drop, Option, Some, None, option_and_then, option_map, unwrap_or}
 use Rattle.plain_lists.specs.FirstOf.{first_of}
 use Rattle.file_rows.specs.Content.{file_at}
+use Rattle.file_rows.specs.FileHead.{is_linear}
 use Rattle.file_rows.specs.Find.{only}
 use Rattle.file_rows.specs.Path.{parent_of}
-use Rattle.file_rows.specs.declared.head.Kind.{Kind}
-use Rattle.file_rows.specs.declared.head.Kind.TheVariants.{Application, Cyclic, Directory, Linear, Master, Transparent}
 use Rattle.file_rows.specs.declared.head.Rule.{Rule}
 use Rattle.file_rows.specs.declared.mode.Mode.{Mode}
 use Rattle.file_rows.specs.declared.row.FileRow.{FileRow}
 use Rattle.access_rules.specs.AccessRule.{allows}
 use Rattle.access_rules.specs.Reading.{rules_of}
-
-abbrev pub is_linear : Kind → Bool
-is_linear Master = false
-is_linear Directory = false
-is_linear Application = false
-is_linear Transparent = false
-is_linear Linear = true
-is_linear Cyclic = false
 
 -- a directory and those above it, the nearest first, up to the MF
 abbrev pub upwards : ℕ → List ℕ → List (List ℕ)

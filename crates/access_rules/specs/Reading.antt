@@ -149,8 +149,8 @@ rule_with modes bytes = option_and_then
     (condition_of 8 read.found)) (object_at bytes)
 
 -- the rule at the beginning of the bytes
-unfoldable pub rule_at : List ℕ → Option (Read AccessRule)
-rule_at bytes = option_and_then
+unfoldable pub leading_rule : List ℕ → Option (Read AccessRule)
+leading_rule bytes = option_and_then
     (λ (read : Read Object). option_and_then
     (λ modes. rule_with modes read.behind) (modes_of read.found)) (object_at bytes)
 
@@ -162,7 +162,7 @@ rules_in (suc most) (b ∷ bytes) =
     if b == 0xFF then Some []
     else option_and_then
     (λ (read : Read AccessRule). option_map (λ rules. read.found ∷ rules)
-    (rules_in most read.behind)) (rule_at (b ∷ bytes))
+    (rules_in most read.behind)) (leading_rule (b ∷ bytes))
 
 -- the rules of a record, and none where it is malformed
 unfoldable pub rules_of : List ℕ → Option (List AccessRule)

@@ -10,7 +10,7 @@ ghost use Rattle.access_rules.specs.AccessRule.Modes.{Bits};
 ghost use Rattle.access_rules.specs.Condition.{holds};
 ghost use Rattle.access_rules.specs.KeySet.{has};
 ghost use Rattle.access_rules.specs.May.{record_allows};
-ghost use Rattle.access_rules.specs.Reading.{Read, codes_of, modes_of, rule_at, rules_of};
+ghost use Rattle.access_rules.specs.Reading.{Read, codes_of, modes_of, leading_rule, rules_of};
 ghost use Rattle.access_rules.specs.Record.{HasNoMore};
 ghost use Rattle.access_rules.specs.Rules.{list_of};
 
@@ -67,8 +67,8 @@ fn first_rule<'a>(
     ensures { MatchResult result
         (λ r. option_map {U = Option Bool × List ℕ}
         (λ (read : Read AccessRule). (answer_of mode (has met.now) read.found, read.behind))
-        (rule_at bytes.now) ≡ Some (r.0, r.1.now))
-        (λ _. rule_at bytes.now ≡ None) }
+        (leading_rule bytes.now) ≡ Some (r.0, r.1.now))
+        (λ _. leading_rule bytes.now ≡ None) }
 {
     let (modes, rest) = first_object(bytes)?;
     let covers = modes_cover(modes, mode)?;

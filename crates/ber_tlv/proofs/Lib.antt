@@ -1,4 +1,4 @@
 pub mod Reading
 pub mod Refusal
-pub mod Fronts
+pub mod Prefixes
 pub mod Walking

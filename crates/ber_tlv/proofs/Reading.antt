@@ -57,7 +57,7 @@ one_length (a ∷ g ∷ i ∷ j ∷ l ∷ n) b x y t u p q e = absurd p
 -- what a TLV begins with
 pub tag_of : {bytes : List ℕ} {t : ℕ} {v r : List ℕ} → (p : BeginsWith bytes t v r) → BeginsWithTag bytes t (p.spelled.size ++ v ++ r)
 tag_of {bytes} {t} {v} {r} p = record {
-  front = p.spelled.front;
+  prefix = p.spelled.prefix;
   tagged = p.spelled.tagged;
   whole = p.whole ∙ ap (λ xs. xs ++ r) p.spelled.whole ∙ simp append_assoc;
 }
@@ -67,19 +67,19 @@ length_of {bytes} {t} {v} {r} p = record { size = p.spelled.size; sized = p.spel
 
 pub same_tag : {bytes x y : List ℕ} {t u : ℕ} → BeginsWithTag bytes t x → BeginsWithTag bytes u y → (t ≡ u) × (x ≡ y)
 same_tag {bytes} {x} {y} {t} {u} p q =
-    let h = one_tag p.front q.front x y t u p.tagged q.tagged (sym p.whole ∙ q.whole) in (h.1, h.2)
+    let h = one_tag p.prefix q.prefix x y t u p.tagged q.tagged (sym p.whole ∙ q.whole) in (h.1, h.2)
 
 pub same_length : {bytes x y : List ℕ} {t u : ℕ} → BeginsWithLength bytes t x → BeginsWithLength bytes u y → (t ≡ u) × (x ≡ y)
 same_length {bytes} {x} {y} {t} {u} p q =
     let h = one_length p.size q.size x y t u p.sized q.sized (sym p.whole ∙ q.whole) in (h.1, h.2)
 
 -- lists of one length before equal lists are equal, and so is what is behind them
-pub same_front : (v w x y : List ℕ) → length v ≡ length w → v ++ x ≡ w ++ y → (v ≡ w) × (x ≡ y)
-same_front [] [] x y n e = (refl, e)
-same_front [] (b ∷ w) x y n e = absurd (omega arith)
-same_front (a ∷ v) [] x y n e = absurd (omega arith)
-same_front (a ∷ v) (b ∷ w) x y n e =
-    let h : (v ≡ w) × (x ≡ y) = same_front v w x y (omega arith) cc in
+pub same_prefix : (v w x y : List ℕ) → length v ≡ length w → v ++ x ≡ w ++ y → (v ≡ w) × (x ≡ y)
+same_prefix [] [] x y n e = (refl, e)
+same_prefix [] (b ∷ w) x y n e = absurd (omega arith)
+same_prefix (a ∷ v) [] x y n e = absurd (omega arith)
+same_prefix (a ∷ v) (b ∷ w) x y n e =
+    let h : (v ≡ w) × (x ≡ y) = same_prefix v w x y (omega arith) cc in
     let i : a ≡ b = cc in
     (cc, h.1)
 
@@ -88,5 +88,5 @@ pub one_tlv : (bytes : List ℕ) (t u : ℕ) (v w x y : List ℕ) → BeginsWith
 one_tlv bytes t u v w x y p q =
     let h = same_tag (tag_of p) (tag_of q) in
     let k = same_length (subst (λ s. BeginsWithLength s (length v) (v ++ x)) h.1 (length_of p)) (length_of q) in
-    let j = same_front v w x y k.0 k.1 in
+    let j = same_prefix v w x y k.0 k.1 in
     (h.0, j.0, j.1)

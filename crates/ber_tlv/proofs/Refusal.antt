@@ -9,22 +9,22 @@ use Rattle.ber_tlv.specs.declared.read.Tlv.{Tlv}
 use Rattle.ber_tlv.specs.Tag.{SpellsTag, HasBadTag}
 use Rattle.ber_tlv.specs.Length.{SpellsLength}
 use Rattle.ber_tlv.specs.Tlv.{BeginsWith, HasBadLength, Refuses}
-use Rattle.ber_tlv.specs.Parts.{BeginsWithTag, BeginsWithLength, BeginsBadly, RefusesTag, RefusesLength, StandsAtFront}
+use Rattle.ber_tlv.specs.Parts.{BeginsWithTag, BeginsWithLength, BeginsBadly, RefusesTag, RefusesLength, StandsFirst}
 use Rattle.ber_tlv.proofs.Reading.{same_tag, same_length, tag_of, length_of, one_tlv}
 
 -- a good tag isn't a bad one, whatever follows
-good_front : (a x : List ℕ) (t : ℕ) → SpellsTag a t → ¬ HasBadTag (a ++ x)
-good_front [] x t p = absurd p
-good_front (a ∷ []) [] t p = λ h. h
-good_front (a ∷ []) (b ∷ []) t p = λ h. absurd (omega arith)
-good_front (a ∷ []) (b ∷ c ∷ m) t p = λ h. absurd (omega arith)
-good_front (a ∷ g ∷ []) [] t p = λ h. absurd (omega arith)
-good_front (a ∷ g ∷ []) (c ∷ m) t p = λ h. ⊎_elim (λ e. absurd (omega arith)) (λ e. absurd (omega arith)) h.1
-good_front (a ∷ g ∷ i ∷ []) x t p = λ h. ⊎_elim (λ e. absurd (omega arith)) (λ e. absurd (omega arith)) h.1
-good_front (a ∷ g ∷ i ∷ j ∷ n) x t p = absurd p
+good_prefix : (a x : List ℕ) (t : ℕ) → SpellsTag a t → ¬ HasBadTag (a ++ x)
+good_prefix [] x t p = absurd p
+good_prefix (a ∷ []) [] t p = λ h. h
+good_prefix (a ∷ []) (b ∷ []) t p = λ h. absurd (omega arith)
+good_prefix (a ∷ []) (b ∷ c ∷ m) t p = λ h. absurd (omega arith)
+good_prefix (a ∷ g ∷ []) [] t p = λ h. absurd (omega arith)
+good_prefix (a ∷ g ∷ []) (c ∷ m) t p = λ h. ⊎_elim (λ e. absurd (omega arith)) (λ e. absurd (omega arith)) h.1
+good_prefix (a ∷ g ∷ i ∷ []) x t p = λ h. ⊎_elim (λ e. absurd (omega arith)) (λ e. absurd (omega arith)) h.1
+good_prefix (a ∷ g ∷ i ∷ j ∷ n) x t p = absurd p
 
 pub good_tag : {bytes rest : List ℕ} {t : ℕ} → BeginsWithTag bytes t rest → ¬ HasBadTag bytes
-good_tag {bytes} {rest} {t} p = λ h. good_front p.front rest t p.tagged (subst HasBadTag p.whole h)
+good_tag {bytes} {rest} {t} p = λ h. good_prefix p.prefix rest t p.tagged (subst HasBadTag p.whole h)
 
 -- a good length isn't a bad one, whatever follows
 good_size : (a x : List ℕ) (n : ℕ) → SpellsLength a n → ¬ BeginsBadly (a ++ x)
@@ -41,15 +41,15 @@ good_length {bytes} {rest} {n} p = λ h. good_size p.size rest n p.sized (subst 
 -- behind the tag the length is bad exactly where the bytes have a bad length
 bad_behind : {bytes : List ℕ} (rest : List ℕ) {t : ℕ} → BeginsWithTag bytes t rest → BeginsBadly rest → HasBadLength bytes
 bad_behind [] p h = absurd h
-bad_behind (first ∷ more) {t} p h = record { front = p.front; tag = t; first = first; more = more; tagged = p.tagged; bad = h; whole = p.whole }
+bad_behind (first ∷ more) {t} p h = record { prefix = p.prefix; tag = t; first = first; more = more; tagged = p.tagged; bad = h; whole = p.whole }
 
 bad_before : {bytes rest : List ℕ} {t : ℕ} → BeginsWithTag bytes t rest → HasBadLength bytes → BeginsBadly rest
 bad_before {bytes} {rest} {t} p h =
-    let front : BeginsWithTag bytes h.tag (h.first ∷ h.more) = record { front = h.front; tagged = h.tagged; whole = h.whole } in
-    subst BeginsBadly (same_tag front p).1 h.bad
+    let prefix : BeginsWithTag bytes h.tag (h.first ∷ h.more) = record { prefix = h.prefix; tagged = h.tagged; whole = h.whole } in
+    subst BeginsBadly (same_tag prefix p).1 h.bad
 
 tag_of_bad : {bytes : List ℕ} → (h : HasBadLength bytes) → BeginsWithTag bytes h.tag (h.first ∷ h.more)
-tag_of_bad h = record { front = h.front; tagged = h.tagged; whole = h.whole }
+tag_of_bad h = record { prefix = h.prefix; tagged = h.tagged; whole = h.whole }
 
 -- the step that refuses gives the reason
 pub refused_at_tag : (bytes : List ℕ) (f : TlvFault) → RefusesTag bytes f → Refuses bytes f
@@ -76,22 +76,22 @@ refused_at_value bytes rest more t n p q h = (
 
 pub found_at : (bytes rest more : List ℕ) (t n : ℕ) → BeginsWithTag bytes t rest → BeginsWithLength rest n more → n ≤ length more → BeginsWith bytes t (take n more) (drop n more)
 found_at bytes rest more t n p q h = record {
-  front = p.front ++ q.size ++ take n more;
+  prefix = p.prefix ++ q.size ++ take n more;
   spelled = record {
-    front = p.front;
+    prefix = p.prefix;
     size = q.size;
     tagged = p.tagged;
     sized = subst (SpellsLength q.size) (sym (length-take-le n more h)) q.sized;
     whole = refl;
   };
-  whole = p.whole ∙ ap (λ s. p.front ++ s) q.whole ∙ ap (λ s. p.front ++ (q.size ++ s)) (sym (take-append-drop n more)) ∙ simp append_assoc;
+  whole = p.whole ∙ ap (λ s. p.prefix ++ s) q.whole ∙ ap (λ s. p.prefix ++ (q.size ++ s)) (sym (take-append-drop n more)) ∙ simp append_assoc;
 }
 
--- what is read stands at the front, in so many bytes
-pub stands_at : (bytes rest more : List ℕ) (t n : ℕ) → BeginsWithTag bytes t rest → BeginsWithLength rest n more → n ≤ length more → StandsAtFront bytes t (take n more) (length bytes - length more + n)
+-- what is read stands at the prefix, in so many bytes
+pub stands_at : (bytes rest more : List ℕ) (t n : ℕ) → BeginsWithTag bytes t rest → BeginsWithLength rest n more → n ≤ length more → StandsFirst bytes t (take n more) (length bytes - length more + n)
 stands_at bytes rest more t n p q h =
-    let head = p.front ++ q.size in
-    let whole : bytes ≡ head ++ more = p.whole ∙ ap (λ s. p.front ++ s) q.whole ∙ sym (append_assoc p.front q.size more) in
+    let head = p.prefix ++ q.size in
+    let whole : bytes ≡ head ++ more = p.whole ∙ ap (λ s. p.prefix ++ s) q.whole ∙ sym (append_assoc p.prefix q.size more) in
     let counted : length bytes ≡ length head + length more = ap length whole ∙ length-append head more in
     let same : length bytes - length more + n ≡ length head + n = omega arith in
     let behind : drop n more ≡ drop (length bytes - length more + n) bytes =
@@ -122,7 +122,7 @@ exact_fault (Ok x) P bytes p n f = (λ e. cc, λ h. absurd (n x p f h))
 exact_fault (Err d) P bytes p n f = (λ e. let h : d ≡ f = cc in subst (Refuses bytes) h p, λ h. ap Err (one_refusal bytes d f p h))
 
 -- and finds what stands there
-pub finds : (r : Result (Tlv × ℕ) TlvFault) (bytes : List ℕ) → MatchResult r (λ x. StandsAtFront bytes x.0.tag x.0.value.now x.1) (Refuses bytes)
+pub finds : (r : Result (Tlv × ℕ) TlvFault) (bytes : List ℕ) → MatchResult r (λ x. StandsFirst bytes x.0.tag x.0.value.now x.1) (Refuses bytes)
     → (t : ℕ) (v rest : List ℕ) → BeginsWith bytes t v rest
     → IsOkAnd r (λ x. (x.0.tag ≡ t) × (x.0.value.now ≡ v) × (x.1 + length rest ≡ length bytes))
 finds (Ok x) bytes p t v rest q =

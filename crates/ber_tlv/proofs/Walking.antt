@@ -19,9 +19,9 @@ has_byte (a ∷ x) t p = omega arith
 pub shorter : {bytes : List ℕ} {t : ℕ} {v r : List ℕ} → BeginsWith bytes t v r → length r < length bytes
 shorter {bytes} {t} {v} {r} p =
     let s = p.spelled in
-    let a : 0 < length s.front = has_byte s.front t s.tagged in
-    let b : length p.front ≡ length s.front + (length s.size + length v) = ap length s.whole ∙ simp length-append (omega arith) in
-    let d : length bytes ≡ length p.front + length r = ap length p.whole ∙ length-append p.front r in
+    let a : 0 < length s.prefix = has_byte s.prefix t s.tagged in
+    let b : length p.prefix ≡ length s.prefix + (length s.size + length v) = ap length s.whole ∙ simp length-append (omega arith) in
+    let d : length bytes ≡ length p.prefix + length r = ap length p.whole ∙ length-append p.prefix r in
     omega arith
 
 pub same_walk : (bytes : List ℕ) (xs ys : List (Result Object TlvFault)) → Walks bytes xs → Walks bytes ys → xs ≡ ys
@@ -71,8 +71,8 @@ sized n h = search rules
 
 begins_with_shortest : (tag : ℕ) (value more : List ℕ) → IsTag tag → length value < 2 ^ 24 → BeginsWith (shortest tag value ++ more) tag value more
 begins_with_shortest tag value more t h = record {
-  front = shortest tag value;
-  spelled = record { front = tag_bytes tag; size = length_bytes (length value); tagged = t; sized = sized (length value) h; whole = refl };
+  prefix = shortest tag value;
+  spelled = record { prefix = tag_bytes tag; size = length_bytes (length value); tagged = t; sized = sized (length value) h; whole = refl };
   whole = refl;
 }
 

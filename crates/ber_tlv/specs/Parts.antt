@@ -8,9 +8,9 @@ use Rattle.ber_tlv.specs.Tlv.{BeginsWith}
 
 -- the bytes are those of this tag, and then the rest
 pub record BeginsWithTag (bytes : List ℕ) (tag : ℕ) (rest : List ℕ) : Type 0 where
-  pub front : List ℕ
-  pub tagged : SpellsTag front tag
-  pub whole : bytes ≡ front ++ rest
+  pub prefix : List ℕ
+  pub tagged : SpellsTag prefix tag
+  pub whole : bytes ≡ prefix ++ rest
 
 -- the bytes are those of this length, and then the rest
 pub record BeginsWithLength (bytes : List ℕ) (n : ℕ) (rest : List ℕ) : Type 0 where
@@ -21,7 +21,8 @@ pub record BeginsWithLength (bytes : List ℕ) (n : ℕ) (rest : List ℕ) : Typ
 abbrev pub RefusesTag : List ℕ → TlvFault → Type 0
 RefusesTag bytes BadTag = HasBadTag bytes
 RefusesTag bytes BadLength = ⊥
-RefusesTag bytes Short = (¬ HasBadTag bytes) × ((tag : ℕ) (rest : List ℕ) → ¬ BeginsWithTag bytes tag rest)
+RefusesTag bytes Short = (¬ HasBadTag bytes)
+    × ((tag : ℕ) (rest : List ℕ) → ¬ BeginsWithTag bytes tag rest)
 
 -- the first byte is one that no length has
 abbrev pub BeginsBadly : List ℕ → Type 0
@@ -31,9 +32,10 @@ BeginsBadly (first ∷ more) = IsBadLength first
 abbrev pub RefusesLength : List ℕ → TlvFault → Type 0
 RefusesLength bytes BadTag = ⊥
 RefusesLength bytes BadLength = BeginsBadly bytes
-RefusesLength bytes Short = (¬ BeginsBadly bytes) × ((n : ℕ) (rest : List ℕ) → ¬ BeginsWithLength bytes n rest)
+RefusesLength bytes Short = (¬ BeginsBadly bytes)
+    × ((n : ℕ) (rest : List ℕ) → ¬ BeginsWithLength bytes n rest)
 
 -- the first count bytes are this tag and value
-pub record StandsAtFront (bytes : List ℕ) (tag : ℕ) (value : List ℕ) (count : ℕ) : Type 0 where
+pub record StandsFirst (bytes : List ℕ) (tag : ℕ) (value : List ℕ) (count : ℕ) : Type 0 where
   pub within : count ≤ length bytes
   pub begins : BeginsWith bytes tag value (drop count bytes)

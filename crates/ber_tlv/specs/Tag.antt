@@ -23,7 +23,7 @@ tag_bytes tag =
 abbrev pub IsTag : ℕ → Type 0
 IsTag tag = SpellsTag (tag_bytes tag) tag
 
--- The front is no tag, however it goes on: its second byte is 80, or its third isn't its last.
+-- The prefix is no tag, however it goes on: its second byte is 80, or its third isn't its last.
 abbrev pub HasBadTag : List ℕ → Type 0
 HasBadTag [] = ⊥
 HasBadTag (a ∷ []) = ⊥

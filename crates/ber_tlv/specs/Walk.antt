@@ -20,14 +20,16 @@ item_of (Err fault) = Err fault
 abbrev pub LeadWith : List ℕ → List Object → List ℕ → Type 0
 LeadWith bytes [] rest = bytes ≡ rest
 LeadWith bytes (object ∷ objects) rest =
-    (behind : List ℕ) × BeginsWith bytes object.tag object.value behind × LeadWith behind objects rest
+    (behind : List ℕ) × BeginsWith bytes object.tag object.value behind
+        × LeadWith behind objects rest
 
 -- the objects in their shortest spellings, one after another
 abbrev pub spelled : List Object → List ℕ
 spelled [] = []
 spelled (object ∷ objects) = shortest object.tag object.value ++ spelled objects
 
--- The bytes are these objects, one after another up to the end, or up to a fault, which is the last item.
+-- The bytes are these objects, one after another up to the end, or up to a fault, which is the
+-- last item.
 abbrev pub Walks : List ℕ → List (Result Object TlvFault) → Type 0
 Walks bytes [] = bytes ≡ []
 Walks bytes (Ok object ∷ items) =

@@ -4,7 +4,7 @@ ghost use Rattle.ber_tlv.specs.Fault.{number_of};
 
 use thiserror::Error;
 
-/// What is wrong at the front of the bytes: the first that applies, the tag before the length.
+/// What is wrong with the TLV that stands first: the first that applies, the tag before the length.
 #[derive(Clone, Copy, Debug, PartialEq, Eq, Error)]
 pub enum TlvFault {
     /// The bytes end before the TLV does.

@@ -2,13 +2,14 @@
 ghost use Rattle.std.specs.Prelude.{◌≡◌, ℕ, ◌<◌, ◌≤◌, ◌^◌, List, ◌++◌, length, Result};
 ghost use Rattle.std.specs.List.{AllByRecursion};
 ghost use Rattle.ber_tlv.specs.Tag.{IsTag};
-ghost use Rattle.ber_tlv.specs.Tlv.{Spells, BeginsWith, shortest};
+ghost use Rattle.ber_tlv.specs.Tlv.{SpellsObject, BeginsWith, shortest};
 ghost use Rattle.ber_tlv.specs.Walk.{Object, Walks, LeadWith, spelled};
 ghost use Rattle.ber_tlv.specs.declared.fault.TlvFault.{TlvFault};
 
 /// Bytes begin with one TLV at most.
 pub fn one_reading()
-    ensures { (bytes : List ℕ) (t u : ℕ) (v w x y : List ℕ) → BeginsWith bytes t v x → BeginsWith bytes u w y
+    ensures { (bytes : List ℕ) (t u : ℕ) (v w x y : List ℕ) → BeginsWith bytes t v x
+        → BeginsWith bytes u w y
         → (t ≡ u) × (v ≡ w) × (x ≡ y) }
 {}
 
@@ -20,10 +21,12 @@ pub fn written_is_read()
 
 /// No spelling of a tag and a value has fewer bytes than the one that is written.
 pub fn fewest_bytes()
-    ensures { (tag : ℕ) (bytes value : List ℕ) → Spells bytes tag value → length (shortest tag value) ≤ length bytes }
+    ensures { (tag : ℕ) (bytes value : List ℕ) → SpellsObject bytes tag value
+        → length (shortest tag value) ≤ length bytes }
 {}
 
-/// The objects of a list are read one after another from their shortest spellings, whatever follows.
+/// The objects of a list are read one after another from their shortest spellings, whatever
+/// follows.
 pub fn written_list_is_read()
     ensures { (objects : List Object) (more : List ℕ)
         → AllByRecursion (λ object. IsTag object.tag × (length object.value < 2 ^ 24)) objects
@@ -32,5 +35,6 @@ pub fn written_list_is_read()
 
 /// A value has one walk at most.
 pub fn one_walk()
-    ensures { (bytes : List ℕ) (xs ys : List (Result Object TlvFault)) → Walks bytes xs → Walks bytes ys → xs ≡ ys }
+    ensures { (bytes : List ℕ) (xs ys : List (Result Object TlvFault)) → Walks bytes xs
+        → Walks bytes ys → xs ≡ ys }
 {}

@@ -1,5 +1,5 @@
-//! BER-TLV data objects, as ISO/IEC 7816-4 and ETSI TS 102 221 code them: tags of one to three bytes
-//! and definite lengths of one to four. Nothing here takes memory.
+//! BER-TLV data objects, as ISO/IEC 7816-4 and ETSI TS 102 221 code them: tags of one to three
+//! bytes and definite lengths of one to four. Nothing here takes memory.
 #![tactic(auto)]
 
 mod fault;

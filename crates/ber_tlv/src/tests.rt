@@ -2,7 +2,7 @@ use super::*;
 use arrayvec::ArrayVec;
 
 #[test]
-fn reads_one_at_the_front(rt: HostRuntime) {
+fn reads_the_first_one(rt: HostRuntime) {
     let cases: [(&[u8], u32, &[u8], usize); 5] = [
         (b"\x9F\x70\x01\x01", 0x9F70, b"\x01", 4),
         (b"\x5A\x81\x02\xAA\xBB", 0x5A, b"\xAA\xBB", 5),

@@ -7,8 +7,8 @@ use crate::fault::TlvFault;
 use crate::read::{Tlv, read_tlv};
 use std::marker::Model;
 
-/// The TLVs that stand one after another in a value. It ends with the end of the value, or after one
-/// fault. Contracts see it as the bytes that are left, of which there are none after a fault.
+/// The TLVs that stand one after another in a value. It ends with the end of the value, or after
+/// one fault. Contracts see it as the bytes that are left, of which there are none after a fault.
 #[derive(Drop)]
 pub struct Walk<'a> {
     rest: &'a [u8],
@@ -23,11 +23,13 @@ impl<'a> Model for Walk<'a> {
 }
 
 impl<'a> Walk<'a> {
-    /// Begins at the front of the value.
+    /// Begins with the first byte of the value.
     pub fn new(value: &'a [u8]) -> Walk<'a>
         ensures start { result ≡ value.now }
-        // Whoever takes all items has the TLVs of the value in order, up to its end or the first fault.
-        ensures whole { (items : List _) → Drains WalkStep result items → Walks value.now (map item_of items) }
+        // Whoever takes all items has the TLVs of the value in order, up to its end or the first
+        // fault.
+        ensures whole { (items : List _) → Drains WalkStep result items
+            → Walks value.now (map item_of items) }
     {
         Walk { rest: value }
     }

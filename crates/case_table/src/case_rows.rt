@@ -10,7 +10,8 @@ pub struct CaseRows<const N: usize> {
 }
 
 impl<const N: usize> CaseRows<N> {
-    /// The value of the first row with that key, if there is one. It takes time by the number of rows.
+    /// The value of the first row with that key, if there is one. It takes time by the number of
+    /// rows.
     pub fn find(&self, key: u16) -> Option<u16>
         ensures { result ≡ value_of self.now key }
     {
@@ -27,7 +28,8 @@ impl<const N: usize> CaseRows<N> {
         ensures value { result ≡ differ self.now.keys }
         // Where they differ each row is the one that its key finds.
         ensures each_row { IsTrue result → (i : ℕ) → i < N
-            → value_of self.now (slice_index self.now.keys i) ≡ Some (slice_index self.now.values i) }
+            → value_of self.now (slice_index self.now.keys i)
+                ≡ Some (slice_index self.now.values i) }
     {
         let mut rest = self.keys.as_slice();
         while let Some((key, others)) = rest.split_first() {

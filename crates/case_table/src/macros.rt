@@ -11,11 +11,13 @@ macro_rules! case_rows {
     };
 }
 
-/// The dispatch by these rows: `case_arms!(number, arm(more), other; 0xA4 => 0, 0xF2 => 1)` stands for
+/// The dispatch by these rows.
+///
+/// `case_arms!(number, arm(more), other; 0xA4 => 0, 0xF2 => 1)` stands for
 /// `match number { 0xA4 => arm!(0xA4, 0, (more)), 0xF2 => arm!(0xF2, 1, (more)), _ => other }`.
 ///
-/// The caller's macro `arm!` gets the key and the value of a row as they are written, so it may have a
-/// rule for each key. A row for which it has none is an error of the compiler.
+/// The caller's macro `arm!` gets the key and the value of a row as they are written, so it may
+/// have a rule for each key. A row for which it has none is an error of the compiler.
 #[macro_export]
 macro_rules! case_arms {
     ($number:expr, $arm:ident $more:tt, $other:expr; $($key:tt => $value:tt),* $(,)?) => {
@@ -26,8 +28,8 @@ macro_rules! case_arms {
     };
 }
 
-/// The value of a row, for `case_arms!`: `case_arms!(number, some_value(), None; ..)` is what the table of
-/// these rows finds.
+/// The value of a row, for `case_arms!`: `case_arms!(number, some_value(), None; ..)` is what the
+/// table of these rows finds.
 #[macro_export]
 macro_rules! some_value {
     ($key:tt, $value:tt, ()) => {

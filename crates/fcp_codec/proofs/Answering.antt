@@ -95,20 +95,20 @@ one_place before bytes (x ∷ os) (y ∷ ps) r s t u p good stop q fine halt =
 
 pub one_answer : (value : List ℕ) (a b : Result Fcp FcpFault) → ReadsFcp value a → ReadsFcp value b → a ≡ b
 one_answer value (Ok x) (Ok y) p q = ap Ok (p.says ∙ ap fcp_of (one_list value p.objects q.objects p.whole q.whole) ∙ sym q.says)
-one_answer value (Ok x) (Err (BadField tag)) p q = absurd (not_both [] value p.objects q.objects q.rest tag p.whole p.good q.front q.stop)
-one_answer value (Err (BadField tag)) (Ok y) p q = absurd (not_both [] value q.objects p.objects p.rest tag q.whole q.good p.front p.stop)
+one_answer value (Ok x) (Err (BadField tag)) p q = absurd (not_both [] value p.objects q.objects q.rest tag p.whole p.good q.prefix q.stop)
+one_answer value (Err (BadField tag)) (Ok y) p q = absurd (not_both [] value q.objects p.objects p.rest tag q.whole q.good p.prefix p.stop)
 one_answer value (Err (BadField t)) (Err (BadField u)) p q =
-    ap (λ n. Err (BadField n)) (one_place [] value p.objects q.objects p.rest q.rest t u p.front p.good p.stop q.front q.good q.stop)
+    ap (λ n. Err (BadField n)) (one_place [] value p.objects q.objects p.rest q.rest t u p.prefix p.good p.stop q.prefix q.good q.stop)
 
 -- what the loop keeps: objects without a bad one were read, and the slots have what their fields say
 pub record Progress (value rest : List ℕ) (fields : Fields) : Type 0 where
   pub objects : List Object
-  pub front : LeadWith value objects rest
+  pub prefix : LeadWith value objects rest
   pub good : NoneIsBad [] objects
   pub kept : Keep objects fields
 
 pub begun : (value : List ℕ) (fields : Fields) → Keep [] fields → Progress value value fields
-begun value fields k = record { objects = []; front = refl; good = tt; kept = k }
+begun value fields k = record { objects = []; prefix = refl; good = tt; kept = k }
 
 good_more : (before objects : List Object) (object : Object) → NoneIsBad before objects → is_bad (before ++ objects) object ≡ false → NoneIsBad before (objects ++ object ∷ [])
 good_more before [] object g b = (subst (λ s. is_bad s object ≡ false) (append-nil before) b, tt)
@@ -121,7 +121,7 @@ gone_on value rest behind object old new p b taken =
     let h = taken p.objects p.kept in
     record {
       objects = p.objects ++ object ∷ [];
-      front = lead_with_one_more value p.objects rest behind object p.front b;
+      prefix = lead_with_one_more value p.objects rest behind object p.prefix b;
       good = good_more [] p.objects object p.good h.0;
       kept = h.1;
     }
@@ -131,11 +131,11 @@ pub stopped : (value rest behind : List ℕ) (object : Object) (old new : Fields
 stopped value rest behind object old new (BadField tag) p b taken =
     let h = taken p.objects p.kept in
     let e : tag ≡ object.tag = cc in
-    record { objects = p.objects; rest = rest; front = p.front; good = p.good; stop = inl (object, behind, b, h.0, e) }
+    record { objects = p.objects; rest = rest; prefix = p.prefix; good = p.good; stop = inl (object, behind, b, h.0, e) }
 
 pub broken : (value rest : List ℕ) (fields : Fields) (fault : TlvFault) → Progress value rest fields → rest ≢ [] → Refuses rest fault → ReadsFcp value (Err (BadField 0))
 broken value rest fields fault p n r =
-    record { objects = p.objects; rest = rest; front = p.front; good = p.good; stop = inr (n, fault, r, refl) }
+    record { objects = p.objects; rest = rest; prefix = p.prefix; good = p.good; stop = inr (n, fault, r, refl) }
 
 pub read : (value : List ℕ) (fields : Fields) (fcp : Fcp) → Progress value [] fields → ((objects : List Object) → Keep objects fields → fcp ≡ fcp_of objects) → ReadsFcp value (Ok fcp)
-read value fields fcp p says = record { objects = p.objects; whole = p.front; good = p.good; says = says p.objects p.kept }
+read value fields fcp p says = record { objects = p.objects; whole = p.prefix; good = p.good; says = says p.objects p.kept }

@@ -66,7 +66,7 @@ pub record ReadsAsFcp (value : List ℕ) (fcp : Fcp) : Type 0 where
 pub record RefusedAt (value : List ℕ) (tag : ℕ) : Type 0 where
   pub objects : List Object
   pub rest : List ℕ
-  pub front : LeadWith value objects rest
+  pub prefix : LeadWith value objects rest
   pub good : NoneIsBad [] objects
   pub stop : StopsAt objects rest tag
 

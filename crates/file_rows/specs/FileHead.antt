@@ -21,6 +21,22 @@ is_application Transparent = false
 is_application Linear = false
 is_application Cyclic = false
 
+abbrev pub is_transparent : Kind → Bool
+is_transparent Master = false
+is_transparent Directory = false
+is_transparent Application = false
+is_transparent Transparent = true
+is_transparent Linear = false
+is_transparent Cyclic = false
+
+abbrev pub is_linear : Kind → Bool
+is_linear Master = false
+is_linear Directory = false
+is_linear Application = false
+is_linear Transparent = false
+is_linear Linear = true
+is_linear Cyclic = false
+
 -- a file that holds files has no size, no records and no SFI
 pub record IsBare (head : FileHead) : Type 0 where
   pub size : head.size ≡ 0

@@ -82,7 +82,8 @@ fn has_form(head: &FileHead) -> bool
 }
 
 impl FileHead {
-    /// Whether the head is one that a file may have: it has the form of its kind. It takes no memory.
+    /// Whether the head is one that a file may have: it has the form of its kind. It takes no
+    /// memory.
     pub fn is_file(&self) -> bool
         ensures { IsTrue result ↔ IsFile self.now }
     {

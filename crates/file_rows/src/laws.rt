@@ -16,7 +16,8 @@ use crate::{CURRENT_APPLICATION_ID, MASTER_FILE_ID};
 /// body of FF, and of a file that goes nothing is left: no file at its path or below it, and no PIN
 /// at home there. A PIN that is set is the one with its number.
 pub fn changes_are_local()
-    ensures others { (content : Content) (change : Change) (path : List ℕ) → ¬ TouchesFile change path
+    ensures others { (content : Content) (change : Change) (path : List ℕ)
+        → ¬ TouchesFile change path
         → file_at path (changed content change).rows ≡ file_at path content.rows }
     ensures added { (content : Content) (head : FileHead) → IsNone (file_at head.path content.rows)
         → file_at head.path (changed content (Change.FileAdd head)).rows ≡ Some (new_file head) }

@@ -6,10 +6,10 @@ use Rattle.flash_pages.specs.declared.bank.Bank.{Bank}
 use Rattle.flash_pages.specs.Append.{EndsAt, EndsBlank}
 use Rattle.flash_pages.specs.Bank.{start_of, end_of, bank_bytes}
 use Rattle.flash_pages.specs.Bytes.{blank, part, patch, IsErased}
-use Rattle.flash_pages.specs.Rows.{row_of, rows_of, IsClosed, HasRows, RowsUpTo}
-use Rattle.flash_pages.proofs.Outcome.{rows_of-push, length-bank_bytes}
+use Rattle.flash_pages.specs.Rows.{row_of, open_rows, IsClosed, HasRows, RowsUpTo}
+use Rattle.flash_pages.proofs.Outcome.{open_rows-push, length-bank_bytes}
 use Rattle.flash_pages.proofs.Patches.{length-blank, length-patch, take-patch-prefix, part_before, part-part, part-patch, part-patch_same}
-use Rattle.flash_pages.proofs.Reading.{length-rows_of-push, split, rest_of_bank}
+use Rattle.flash_pages.proofs.Reading.{length-open_rows-push, split, rest_of_bank}
 use Rattle.flash_pages.proofs.RowLemmas.{length-row_of}
 
 drop-blank : (k n : ℕ) → drop k (blank n) ≡ blank (n - k)
@@ -75,12 +75,12 @@ module _ (bytes : List ℕ) (bodies : List (List ℕ)) (place : ℕ)
 
   within : place ≤ length bytes
   within = omega
-      (arith, ends.end, ap length ends.rows, length-append (rows_of bodies) (blank behind))
+      (arith, ends.end, ap length ends.rows, length-append (open_rows bodies) (blank behind))
 
   drop-behind : drop place bytes ≡ blank behind
   drop-behind =
       ap (drop place) ends.rows
-      ∙ drop_at (rows_of bodies) (blank behind) place (sym ends.end)
+      ∙ drop_at (open_rows bodies) (blank behind) place (sym ends.end)
 
   drop-further : (k : ℕ) → drop (place + k) bytes ≡ blank (behind - k)
   drop-further k =
@@ -118,17 +118,17 @@ module _ (bytes : List ℕ) (bodies : List (List ℕ)) (place : ℕ)
       let left : behind - (5 + length body) ≡ length (patch bytes place row) -
       (place + 5 + length body) =
       omega (arith, size, within) in
-      let prefix : take place bytes ≡ rows_of bodies =
-      ap (take place) ends.rows ∙ take_at (rows_of bodies) (blank behind) place (sym ends.end) in
+      let prefix : take place bytes ≡ open_rows bodies =
+      ap (take place) ends.rows ∙ take_at (open_rows bodies) (blank behind) place (sym ends.end) in
       let rest : drop (place + length row) bytes ≡ blank
       (length (patch bytes place row) - (place + 5 + length body)) =
       ap (λ (k : ℕ). drop k bytes) next ∙ drop-further (5 + length body) ∙ ap blank left in
       record {
-        end = omega (arith, length-rows_of-push bodies body, ends.end);
+        end = omega (arith, length-open_rows-push bodies body, ends.end);
         rows = ap (λ (l : List ℕ). l ++ row ++ drop (place + length row) bytes) prefix
-            ∙ append_assoc (rows_of bodies) row (drop (place + length row) bytes)
-            ∙ sym (rows_of-push bodies body (drop (place + length row) bytes))
-            ∙ ap (λ (l : List ℕ). rows_of (bodies ++ body ∷ []) ++ l) rest;
+            ∙ append_assoc (open_rows bodies) row (drop (place + length row) bytes)
+            ∙ sym (open_rows-push bodies body (drop (place + length row) bytes))
+            ∙ ap (λ (l : List ℕ). open_rows (bodies ++ body ∷ []) ++ l) rest;
       }
 
 -- the same of a bank in a flash

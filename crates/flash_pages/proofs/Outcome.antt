@@ -7,17 +7,17 @@ use Rattle.flash_pages.specs.declared.bank.Bank.{Bank}
 use Rattle.flash_pages.specs.Bank.{start_of, end_of, bank_bytes}
 use Rattle.flash_pages.specs.Bytes.{part, patch, DiffersIn}
 use Rattle.flash_pages.specs.Append.{IsTornRow, EndsAt, HasRowsOrOneMore}
-use Rattle.flash_pages.specs.Rows.{behind_gate, row_of, rows_of, IsClosed, HasRows}
+use Rattle.flash_pages.specs.Rows.{behind_gate, row_of, open_rows, IsClosed, HasRows}
 use Rattle.flash_pages.proofs.Patches.{DiffersIn-trans, DiffersIn-wider, DiffersIn-patch, take-patch-prefix, drop-patch-prefix, length-patch, part-DiffersIn, part-patch}
 use Rattle.flash_pages.proofs.RowLemmas.{length-behind_gate, length-row_of}
 
-pub rows_of-push : (bodies : List (List ℕ)) (body rest : List ℕ)
-    → rows_of (bodies ++ body ∷ []) ++ rest ≡ rows_of bodies ++ (row_of body ++ rest)
-rows_of-push [] body rest = ap (λ (l : List ℕ). l ++ rest) (append-nil (row_of body))
-rows_of-push (b ∷ bodies) body rest =
-    append_assoc (row_of b) (rows_of (bodies ++ body ∷ [])) rest
-    ∙ ap (λ (l : List ℕ). row_of b ++ l) (rows_of-push bodies body rest)
-    ∙ sym (append_assoc (row_of b) (rows_of bodies) (row_of body ++ rest))
+pub open_rows-push : (bodies : List (List ℕ)) (body rest : List ℕ)
+    → open_rows (bodies ++ body ∷ []) ++ rest ≡ open_rows bodies ++ (row_of body ++ rest)
+open_rows-push [] body rest = ap (λ (l : List ℕ). l ++ rest) (append-nil (row_of body))
+open_rows-push (b ∷ bodies) body rest =
+    append_assoc (row_of b) (open_rows (bodies ++ body ∷ [])) rest
+    ∙ ap (λ (l : List ℕ). row_of b ++ l) (open_rows-push bodies body rest)
+    ∙ sym (append_assoc (row_of b) (open_rows bodies) (row_of body ++ rest))
 
 -- rows behind which a closed gate stands as it was
 closed_prefix : (rows rest image : List ℕ) (place : ℕ) → place ≡ length rows → IsClosed rest
@@ -40,7 +40,7 @@ module _ (bytes image body : List ℕ) (bodies : List (List ℕ)) (place : ℕ)
     (ends : EndsAt bytes bodies place (length body))
     (fits : place + 5 + length body ≤ length bytes) where
   abbrev rows : List ℕ
-  rows = rows_of bodies
+  rows = open_rows bodies
 
   abbrev rest : List ℕ
   rest = ends.rows.0
@@ -100,7 +100,7 @@ module _ (bytes image body : List ℕ) (bodies : List (List ℕ)) (place : ℕ)
               behind,
               whole differs
                   ∙ ap (λ (g : ℕ). rows ++ (g ∷ behind_gate body ++ behind)) open_gate
-                  ∙ sym (rows_of-push bodies body behind),
+                  ∙ sym (open_rows-push bodies body behind),
               ends.behind,
             )
         | inr shut ↦ inl (get_or image place 0 ∷ behind_gate body ++ behind, whole differs, shut)
@@ -123,7 +123,7 @@ module _ (bytes image body : List ℕ) (bodies : List (List ℕ)) (place : ℕ)
         behind,
         is ∙ ap (λ (k : ℕ). take place bytes ++ row_of body ++ drop k bytes) same
             ∙ ap (λ (l : List ℕ). l ++ row_of body ++ behind) prefix
-            ∙ append_assoc rows (row_of body) behind ∙ sym (rows_of-push bodies body behind),
+            ∙ append_assoc rows (row_of body) behind ∙ sym (open_rows-push bodies body behind),
         ends.behind,
       )
 

@@ -5,10 +5,10 @@ use Rattle.flash_pages.specs.declared.bank.Bank.{Bank}
 use Rattle.flash_pages.specs.declared.row.RowAt.TheVariants.{Open, End, Overrun}
 use Rattle.flash_pages.specs.Bank.{start_of, end_of, bank_bytes}
 use Rattle.flash_pages.specs.Bytes.{part}
-use Rattle.flash_pages.specs.Rows.{row_of, rows_of, IsClosed, HasRows, BeginsWithRow, RowIs, LiesBefore, RowsUpTo, ReadsAs}
+use Rattle.flash_pages.specs.Rows.{row_of, open_rows, IsClosed, HasRows, BeginsWithRow, RowIs, LiesBefore, RowsUpTo, ReadsAs}
 use Rattle.flash_pages.proofs.Patches.{part-part}
 use Rattle.flash_pages.proofs.RowLemmas.{length-row_of}
-use Rattle.flash_pages.proofs.Outcome.{rows_of-push}
+use Rattle.flash_pages.proofs.Outcome.{open_rows-push}
 use Rattle.flash_pages.proofs.Unique.{same_row, not_closed}
 
 -- what is left of a bank from a place in it on
@@ -24,67 +24,67 @@ rest_of_bank bank at image from_start to_end =
     ∙ ap (take (end_of bank - at))
     (drop-drop place start image ∙ ap (λ (k : ℕ). drop k image) there))
 
-pub length-rows_of-push : (bodies : List (List ℕ)) (body : List ℕ)
-    → length (rows_of (bodies ++ body ∷ [])) ≡ length (rows_of bodies) + (5 + length body)
-length-rows_of-push bodies body =
-    let joined = ap length (rows_of-push bodies body []) in
-    let left = length-append (rows_of (bodies ++ body ∷ [])) [] in
-    let right = length-append (rows_of bodies) (row_of body ++ []) in
+pub length-open_rows-push : (bodies : List (List ℕ)) (body : List ℕ)
+    → length (open_rows (bodies ++ body ∷ [])) ≡ length (open_rows bodies) + (5 + length body)
+length-open_rows-push bodies body =
+    let joined = ap length (open_rows-push bodies body []) in
+    let left = length-append (open_rows (bodies ++ body ∷ [])) [] in
+    let right = length-append (open_rows bodies) (row_of body ++ []) in
     let last = length-append (row_of body) [] in
     omega (arith, joined, left, right, last, length-row_of body)
 
 -- rows behind which neither an end nor a row stands, beside others that end
 no_rows : (before others : List (List ℕ)) (tail rest : List ℕ)
-    → length (rows_of before ++ tail) < 2 ^ 32
+    → length (open_rows before ++ tail) < 2 ^ 32
     → (IsClosed tail → ⊥) → ((body : List ℕ) → length body < 2 ^ 32 → BeginsWithRow tail body → ⊥)
-    → rows_of before ++ tail ≡ rows_of others ++ rest → IsClosed rest → ⊥
+    → open_rows before ++ tail ≡ open_rows others ++ rest → IsClosed rest → ⊥
 no_rows [] [] tail rest small no_end no_row is closed = no_end (subst IsClosed (sym is) closed)
 no_rows [] (y ∷ ys) tail rest small no_end no_row is closed =
-    let row = is ∙ append_assoc (row_of y) (rows_of ys) rest in
+    let row = is ∙ append_assoc (row_of y) (open_rows ys) rest in
     let short : length y < 2 ^ 32 =
     omega (
       arith,
       small,
       ap length row,
       length-append (row_of y)
-          (rows_of ys ++ rest),
+          (open_rows ys ++ rest),
       length-row_of y,
     ) in
-    no_row y short (rows_of ys ++ rest, row)
+    no_row y short (open_rows ys ++ rest, row)
 no_rows (x ∷ xs) [] tail rest small no_end no_row is closed =
-    not_closed x (rows_of xs ++ tail) rest
-    (sym is ∙ append_assoc (row_of x) (rows_of xs) tail) closed
+    not_closed x (open_rows xs ++ tail) rest
+    (sym is ∙ append_assoc (row_of x) (open_rows xs) tail) closed
 no_rows (x ∷ xs) (y ∷ ys) tail rest small no_end no_row is closed =
-    let one = append_assoc (row_of x) (rows_of xs) tail in
-    let other = append_assoc (row_of y) (rows_of ys) rest in
-    let size = ap length one ∙ length-append (row_of x) (rows_of xs ++ tail) in
-    let size_y = ap length (is ∙ other) ∙ length-append (row_of y) (rows_of ys ++ rest) in
+    let one = append_assoc (row_of x) (open_rows xs) tail in
+    let other = append_assoc (row_of y) (open_rows ys) rest in
+    let size = ap length one ∙ length-append (row_of x) (open_rows xs ++ tail) in
+    let size_y = ap length (is ∙ other) ∙ length-append (row_of y) (open_rows ys ++ rest) in
     let small_x : length x < 2 ^ 32 = omega (arith, small, size, length-row_of x) in
     let small_y : length y < 2 ^ 32 = omega (arith, small, size_y, length-row_of y) in
-    let same = same_row x y (rows_of xs ++ tail) (rows_of ys ++ rest) small_x small_y
+    let same = same_row x y (open_rows xs ++ tail) (open_rows ys ++ rest) small_x small_y
     (sym one ∙ is ∙ other) in
     no_rows xs ys tail rest (omega (arith, small, size)) no_end no_row same.1 closed
 
 module _ (bytes : List ℕ) (bodies : List (List ℕ)) (place : ℕ)
     (so_far : RowsUpTo bytes bodies place) where
-  pub split : (rest : List ℕ) → drop place bytes ≡ rest → bytes ≡ rows_of bodies ++ rest
+  pub split : (rest : List ℕ) → drop place bytes ≡ rest → bytes ≡ open_rows bodies ++ rest
   split rest is =
       sym (take-append-drop place bytes) ∙ ap (λ (l : List ℕ). l ++ drop place bytes) so_far.rows
-      ∙ ap (λ (l : List ℕ). rows_of bodies ++ l) is
+      ∙ ap (λ (l : List ℕ). open_rows bodies ++ l) is
 
   -- one more open row
   pub RowsUpTo-row : (body : List ℕ) → BeginsWithRow (drop place bytes) body
       → RowsUpTo bytes (bodies ++ body ∷ []) (place + 5 + length body)
   RowsUpTo-row body (rest, row) =
-      let longer = length-rows_of-push bodies body in
-      let whole : bytes ≡ rows_of (bodies ++ body ∷ []) ++ rest =
-      split (row_of body ++ rest) row ∙ sym (rows_of-push bodies body rest) in
-      let end : place + 5 + length body ≡ length (rows_of (bodies ++ body ∷ [])) =
+      let longer = length-open_rows-push bodies body in
+      let whole : bytes ≡ open_rows (bodies ++ body ∷ []) ++ rest =
+      split (row_of body ++ rest) row ∙ sym (open_rows-push bodies body rest) in
+      let end : place + 5 + length body ≡ length (open_rows (bodies ++ body ∷ [])) =
       omega (arith, longer, so_far.end) in
       record {
         end = end;
         rows = ap (take (place + 5 + length body)) whole
-            ∙ take_at (rows_of (bodies ++ body ∷ [])) rest (place + 5 + length body) (sym end);
+            ∙ take_at (open_rows (bodies ++ body ∷ [])) rest (place + 5 + length body) (sym end);
       }
 
   -- as `read_row` returns it: its body is the part of that length behind its head
@@ -125,7 +125,7 @@ read_from : (bytes : List ℕ) (body : List ℕ) (bodies : List (List ℕ))
 read_from bytes body bodies row (rest, is, closed) = (
   rest,
   row ∙ ap (λ (l : List ℕ). row_of body ++ l) is
-      ∙ sym (append_assoc (row_of body) (rows_of bodies) rest),
+      ∙ sym (append_assoc (row_of body) (open_rows bodies) rest),
   closed,
 )
 
@@ -139,12 +139,12 @@ pub reads_as : (at : ℕ) (bytes : List ℕ) (bodies : List (List ℕ)) → HasR
     → ReadsAs at bytes bodies
 reads_as at bytes [] (rest, is, closed) = subst IsClosed (sym is) closed
 reads_as at bytes (body ∷ bodies) (rest, is, closed) =
-    let row : bytes ≡ row_of body ++ (rows_of bodies ++ rest) =
-    is ∙ append_assoc (row_of body) (rows_of bodies) rest in
-    let behind = behind_row bytes body (rows_of bodies ++ rest) row in (
-      (body, (rows_of bodies ++ rest, row), refl, refl, refl),
+    let row : bytes ≡ row_of body ++ (open_rows bodies ++ rest) =
+    is ∙ append_assoc (row_of body) (open_rows bodies) rest in
+    let behind = behind_row bytes body (open_rows bodies ++ rest) row in (
+      (body, (open_rows bodies ++ rest, row), refl, refl, refl),
       ap (λ (l : List ℕ). take (length body) (drop 5 l)) row
-          ∙ take_at body (rows_of bodies ++ rest) (length body) refl,
+          ∙ take_at body (open_rows bodies ++ rest) (length body) refl,
       reads_as (at + 5 + length body) (drop (5 + length body) bytes) bodies (rest, behind, closed),
     )
 

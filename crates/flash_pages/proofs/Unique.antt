@@ -3,7 +3,7 @@ use Rattle.std.proofs.Common.{◌≡◌, ℕ, ◌^◌, ◌<◌, List, [], ◌∷
 use Rattle.std.specs.Int.{to_be_bytes, from_be_bytes, w32}
 use Rattle.std.proofs.lemmas.List.{take_at, drop_at}
 use Rattle.std.proofs.lemmas.Nat.{from_be_bytes-to_be_bytes_4}
-use Rattle.flash_pages.specs.Rows.{row_of, rows_of, IsClosed, HasRows}
+use Rattle.flash_pages.specs.Rows.{row_of, open_rows, IsClosed, HasRows}
 use Rattle.flash_pages.proofs.RowLemmas.{length-row_of}
 
 -- two rows that begin the same list have the same body
@@ -39,17 +39,17 @@ pub unique : (bytes : List ℕ) (first second : List (List ℕ)) → length byte
     → HasRows bytes first → HasRows bytes second → first ≡ second
 unique bytes [] [] small one other = refl
 unique bytes [] (y ∷ ys) small one other =
-    absurd (not_closed y (rows_of ys ++ other.0) one.0
-    (sym one.1 ∙ other.1 ∙ append_assoc (row_of y) (rows_of ys) other.0) one.2)
+    absurd (not_closed y (open_rows ys ++ other.0) one.0
+    (sym one.1 ∙ other.1 ∙ append_assoc (row_of y) (open_rows ys) other.0) one.2)
 unique bytes (x ∷ xs) [] small one other =
-    absurd (not_closed x (rows_of xs ++ one.0) other.0
-    (sym other.1 ∙ one.1 ∙ append_assoc (row_of x) (rows_of xs) one.0) other.2)
+    absurd (not_closed x (open_rows xs ++ one.0) other.0
+    (sym other.1 ∙ one.1 ∙ append_assoc (row_of x) (open_rows xs) one.0) other.2)
 unique bytes (x ∷ xs) (y ∷ ys) small one other =
-    let more = rows_of xs ++ one.0 in
-    let others = rows_of ys ++ other.0 in
-    let first_is : bytes ≡ row_of x ++ more = one.1 ∙ append_assoc (row_of x) (rows_of xs) one.0 in
+    let more = open_rows xs ++ one.0 in
+    let others = open_rows ys ++ other.0 in
+    let first_is : bytes ≡ row_of x ++ more = one.1 ∙ append_assoc (row_of x) (open_rows xs) one.0 in
     let second_is : bytes ≡ row_of y ++ others =
-    other.1 ∙ append_assoc (row_of y) (rows_of ys) other.0 in
+    other.1 ∙ append_assoc (row_of y) (open_rows ys) other.0 in
     let small_x : length x < 2 ^ 32 =
     omega (arith, ap length first_is, length-append (row_of x) more, length-row_of x) in
     let small_y : length y < 2 ^ 32 =

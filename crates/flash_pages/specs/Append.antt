@@ -4,7 +4,7 @@ use Rattle.flash_pages.specs.declared.bank.Bank.{Bank}
 use Rattle.flash_pages.specs.Bank.{bank_bytes}
 use Rattle.flash_pages.specs.Bytes.{blank, patch, DiffersIn}
 use Rattle.flash_pages.specs.Flash.{FlashState, IsSettled, LeavesOnly, AddsOnly, Touches}
-use Rattle.flash_pages.specs.Rows.{behind_gate, row_of, rows_of, IsClosed, HasRows}
+use Rattle.flash_pages.specs.Rows.{behind_gate, row_of, open_rows, IsClosed, HasRows}
 
 -- What a cut may leave of it: length and body torn behind a gate as it was, or both in place behind
 -- any gate.
@@ -17,7 +17,7 @@ IsTornRow at body before image =
 -- row with a body of this length takes there.
 pub record EndsAt (bytes : List ℕ) (bodies : List (List ℕ)) (place len : ℕ) : Type 0 where
   pub rows : HasRows bytes bodies
-  pub end : place ≡ length (rows_of bodies)
+  pub end : place ≡ length (open_rows bodies)
   pub behind : IsClosed (drop (place + 5 + len) bytes)
 
 -- the open rows are those of before, or those and this one
@@ -54,5 +54,5 @@ pub record KeepsRows {T E : Type 0} (bank : Bank) (bodies : List (List ℕ)) (bo
 
 -- the open rows of a bank end at this place of it, and all bytes from there on are FF
 pub record EndsBlank (bytes : List ℕ) (bodies : List (List ℕ)) (place : ℕ) : Type 0 where
-  pub end : place ≡ length (rows_of bodies)
-  pub rows : bytes ≡ rows_of bodies ++ blank (length bytes - place)
+  pub end : place ≡ length (open_rows bodies)
+  pub rows : bytes ≡ open_rows bodies ++ blank (length bytes - place)

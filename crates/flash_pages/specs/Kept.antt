@@ -18,9 +18,9 @@ abbrev pub calls_of : List ℕ → List Kept → List Call
 calls_of torn kept = reverse (map (call_of torn) kept)
 
 -- the bytes that the flash was made with; one that was made blank keeps none
-abbrev pub first_of : Option (List ℕ) → List ℕ
-first_of (Some bytes) = bytes
-first_of None = blank (block_len * card_blocks)
+abbrev pub made_with : Option (List ℕ) → List ℕ
+made_with (Some bytes) = bytes
+made_with None = blank (block_len * card_blocks)
 
 -- the past, and the torn bytes of its failures
 pub record History : Type 0 where

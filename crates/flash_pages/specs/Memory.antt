@@ -4,7 +4,7 @@ use Rattle.flash_pages.specs.declared.memory.MemoryFlash.{MemoryFlash}
 use Rattle.flash_pages.specs.declared.plan.FlashPlan.{FlashPlan}
 use Rattle.flash_pages.specs.Flash.{FlashState, IsFresh, IsSettled}
 use Rattle.flash_pages.specs.Past.{last_ok, memory_state}
-use Rattle.flash_pages.specs.Plan.{Plan, planned}
+use Rattle.flash_pages.specs.Plan.{Plan, first_plan}
 
 abbrev pub state_of : MemoryFlash → FlashState
 state_of flash =
@@ -29,7 +29,7 @@ room_of flash = flash.history.past.room
 -- it was made with these bytes, by this plan
 pub record IsMade (held : List ℕ) (plan : FlashPlan) (flash : MemoryFlash) : Type 0 where
   pub fresh : IsFresh held (state_of flash)
-  pub plan_is : plan_of flash ≡ planned plan.fail.items plan.fail_reads.items plan.cut
+  pub plan_is : plan_of flash ≡ first_plan plan.fail.items plan.fail_reads.items plan.cut
   pub torn : torn_of flash ≡ plan.torn.items
   pub room : room_of flash ≡ plan.kept
 

@@ -19,8 +19,8 @@ pub record Plan : Type 0 where
   pub is_off : Bool
 
 -- before the first call
-abbrev pub planned : List ℕ → List ℕ → Option ℕ → Plan
-planned fail fail_reads cut = record {
+abbrev pub first_plan : List ℕ → List ℕ → Option ℕ → Plan
+first_plan fail fail_reads cut = record {
   fail = fail;
   fail_reads = fail_reads;
   cut = cut;
@@ -38,8 +38,8 @@ abbrev pub is_listed : List ℕ → ℕ → Bool
 is_listed calls call = list_any (λ listed. listed == call) calls
 
 -- Power that is off does nothing. The call of the cut and the listed ones tear what they write.
-abbrev pub outcome_of : Plan → Outcome
-outcome_of plan =
+abbrev pub next_outcome : Plan → Outcome
+next_outcome plan =
     let call = one_more plan.changes in
     if plan.is_off then Off else
     (if is_named plan.cut call || is_listed plan.fail call then Torn else Done)
@@ -53,7 +53,7 @@ is_done Off = false
 abbrev pub after_change : Plan → Plan
 after_change plan = record plan {
   changes = one_more plan.changes;
-  faults = if is_done (outcome_of plan) then plan.faults else one_more plan.faults;
+  faults = if is_done (next_outcome plan) then plan.faults else one_more plan.faults;
   is_off = plan.is_off || is_named plan.cut (one_more plan.changes);
 }
 

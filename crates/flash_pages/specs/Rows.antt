@@ -14,9 +14,9 @@ abbrev pub row_of : List ℕ → List ℕ
 row_of body = 0 ∷ behind_gate body
 
 -- open rows with these bodies, one after another
-abbrev pub rows_of : List (List ℕ) → List ℕ
-rows_of [] = []
-rows_of (body ∷ bodies) = row_of body ++ rows_of bodies
+abbrev pub open_rows : List (List ℕ) → List ℕ
+open_rows [] = []
+open_rows (body ∷ bodies) = row_of body ++ open_rows bodies
 
 -- no open row stands first
 abbrev pub IsClosed : List ℕ → Type 0
@@ -25,7 +25,7 @@ IsClosed (gate ∷ rest) = gate ≢ 0
 
 -- these are the bodies of the open rows
 abbrev pub HasRows : List ℕ → List (List ℕ) → Type 0
-HasRows bytes bodies = (rest : List ℕ) × (bytes ≡ rows_of bodies ++ rest) × IsClosed rest
+HasRows bytes bodies = (rest : List ℕ) × (bytes ≡ open_rows bodies ++ rest) × IsClosed rest
 
 -- a bank has no two lists of open rows
 abbrev pub HasOneListOfRows : Type 0
@@ -54,8 +54,8 @@ LiesBefore at end Overrun = ⊤
 
 -- the rows up to this place are open and have these bodies
 pub record RowsUpTo (bytes : List ℕ) (bodies : List (List ℕ)) (place : ℕ) : Type 0 where
-  pub end : place ≡ length (rows_of bodies)
-  pub rows : take place bytes ≡ rows_of bodies
+  pub end : place ≡ length (open_rows bodies)
+  pub rows : take place bytes ≡ open_rows bodies
 
 -- what is read one row after another from place `at` on: open rows with these bodies, and then an
 -- end

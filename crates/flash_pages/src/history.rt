@@ -1,7 +1,7 @@
 ghost use Rattle.std.specs.Prelude.{◌≡◌, [], IfOk, true};
 ghost use Rattle.flash_pages.specs.Past.{after_call};
 ghost use Rattle.std.specs.Option.{option_map};
-ghost use Rattle.flash_pages.specs.Kept.{call_of, first_of};
+ghost use Rattle.flash_pages.specs.Kept.{call_of, made_with};
 
 use arrayvec::ArrayVec;
 use std::alloc::{AllocError as NoMemory, Global};
@@ -31,13 +31,13 @@ pub(crate) struct CallRecord {
 impl Model for CallRecord {
     ghost use Rattle.std.specs.Prelude.{◌≤◌, vec_capacity};
     ghost use Rattle.std.specs.Option.{option_map};
-    ghost use Rattle.flash_pages.specs.Kept.{History, calls_of, first_of};
+    ghost use Rattle.flash_pages.specs.Kept.{History, calls_of, made_with};
 
     ghost Value = { History };
 
     ghost view = { λ h. record {
       past = record {
-        first = first_of (option_map (λ v. v.items) h.first);
+        first = made_with (option_map (λ v. v.items) h.first);
         calls = calls_of h.torn.items h.calls.items;
         known = h.known;
         room = h.room;
@@ -56,7 +56,7 @@ impl CallRecord {
         room: usize,
     ) -> Result<Self, NoMemory>
         ensures past { IfOk result (λ history. history.past ≡ record {
-          first = first_of (option_map (λ v. v.items) first);
+          first = made_with (option_map (λ v. v.items) first);
           calls = [];
           known = true;
           room = room;

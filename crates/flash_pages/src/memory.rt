@@ -5,7 +5,7 @@ ghost use Rattle.flash_pages.specs.Flash.{block_len, card_blocks, IsRange, IsPie
 ghost use Rattle.flash_pages.specs.Left.{left_by, with_left};
 ghost use Rattle.flash_pages.specs.Past.{content, after_call, Since, Write};
 ghost use Rattle.flash_pages.specs.MemoryLaw.{IsFlash-memory};
-ghost use Rattle.flash_pages.specs.Plan.{outcome_of, is_done, after_change, is_read, after_read, after_restart};
+ghost use Rattle.flash_pages.specs.Plan.{next_outcome, is_done, after_change, is_read, after_read, after_restart};
 
 use crate::fills::{erased_bytes, put, tear};
 use crate::history::{CallRecord, Kept};
@@ -33,7 +33,7 @@ pub struct MemoryFlash {
 
 impl MemoryFlash {
     ghost use Rattle.std.specs.Option.{option_map};
-    ghost use Rattle.flash_pages.specs.Kept.{first_of};
+    ghost use Rattle.flash_pages.specs.Kept.{made_with};
     ghost use Rattle.flash_pages.specs.Memory.{IsMade};
 
     /// Makes a blank flash. The plan's vectors are its own from then on. Takes the memory of the
@@ -63,7 +63,7 @@ impl MemoryFlash {
         first: Option<Vec<u8>>,
         plan: FlashPlan,
     ) -> Result<Self, NoMemory>
-        requires first { first_of (option_map (λ v. v.items) first) ≡ bytes.items }
+        requires first { made_with (option_map (λ v. v.items) first) ≡ bytes.items }
         requires size { length bytes.items ≡ block_len * card_blocks }
         ensures { IfOk result (IsMade bytes.items plan) }
     {
@@ -87,7 +87,7 @@ impl MemoryFlash {
     // failure leaves.
     fn begin(&mut self, at: u32, len: u32) -> Result<(), Failed>
         requires { IsRange card_blocks at len }
-        ensures answer { is_ok result ≡ is_done (outcome_of self.old.power) }
+        ensures answer { is_ok result ≡ is_done (next_outcome self.old.power) }
         ensures power { self.new.power ≡ after_change self.old.power }
         ensures programmed { self.new.programmed ≡ self.old.programmed }
         ensures erased { self.new.erased ≡ self.old.erased }
@@ -95,7 +95,7 @@ impl MemoryFlash {
         ensures ok { OnOk result ((self.new.bytes.items ≡ self.old.bytes.items)
             × (self.new.history.past ≡ self.old.history.past)) }
         ensures err { OnErr result (
-            let left = left_by (outcome_of self.old.power) self.old.history.torn (blank len) in
+            let left = left_by (next_outcome self.old.power) self.old.history.torn (blank len) in
             (self.new.bytes.items ≡ with_left self.old.bytes.items at left)
             × (self.new.history.past
             ≡ after_call self.old.history.past (Write at len left false))) }
@@ -169,12 +169,12 @@ impl Flash for MemoryFlash {
         ensures erased { (state_of self.new).erased ≡ (state_of self.old).erased }
         ensures cause { FailsOnlyWhereRose result (plan_of self.old).faults
             (plan_of self.new).faults }
-        ensures answer { is_ok result ≡ is_done (outcome_of (plan_of self.old)) }
+        ensures answer { is_ok result ≡ is_done (next_outcome (plan_of self.old)) }
         ensures plan { plan_of self.new ≡ after_change (plan_of self.old) }
         ensures recorded { RecordsCall self.old self.new result }
         ensures left { bytes_of self.new
             ≡ with_left (bytes_of self.old) at
-            (left_by (outcome_of (plan_of self.old)) (torn_of self.old) bytes.now) }
+            (left_by (next_outcome (plan_of self.old)) (torn_of self.old) bytes.now) }
     {
         self.programmed = self.programmed.saturating_add(1);
         self.begin(at, bytes.len() as u32)?;
@@ -193,11 +193,11 @@ impl Flash for MemoryFlash {
         ensures erased { (state_of self.new).erased ≡ one_more (state_of self.old).erased }
         ensures cause { FailsOnlyWhereRose result (plan_of self.old).faults
             (plan_of self.new).faults }
-        ensures answer { is_ok result ≡ is_done (outcome_of (plan_of self.old)) }
+        ensures answer { is_ok result ≡ is_done (next_outcome (plan_of self.old)) }
         ensures plan { plan_of self.new ≡ after_change (plan_of self.old) }
         ensures recorded { RecordsCall self.old self.new result }
         ensures left { bytes_of self.new ≡ with_left (bytes_of self.old) (block_len * block)
-            (left_by (outcome_of (plan_of self.old)) (torn_of self.old) (blank block_len)) }
+            (left_by (next_outcome (plan_of self.old)) (torn_of self.old) (blank block_len)) }
     {
         self.erased = self.erased.saturating_add(1);
         let at = BLOCK_LEN * block;

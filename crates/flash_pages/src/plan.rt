@@ -1,6 +1,6 @@
 ghost use Rattle.std.specs.Prelude.{◌≡◌};
 ghost use Rattle.port_io.specs.Faults.{NeverFalls};
-ghost use Rattle.flash_pages.specs.Plan.{planned, is_named, outcome_of, after_change, is_read, after_read, after_restart};
+ghost use Rattle.flash_pages.specs.Plan.{first_plan, is_named, next_outcome, after_change, is_read, after_read, after_restart};
 
 use std::marker::Model;
 
@@ -63,7 +63,7 @@ impl Model for Power {
 
 impl Power {
     pub(crate) fn new(fail: Vec<u64>, fail_reads: Vec<u64>, cut: Option<u64>) -> Self
-        ensures { result ≡ planned fail.items fail_reads.items cut }
+        ensures { result ≡ first_plan fail.items fail_reads.items cut }
     {
         Power {
             fail,
@@ -85,7 +85,7 @@ impl Power {
     /// Counts a program or an erase, with its fault if it is to fail, and returns what becomes of
     /// it.
     pub(crate) fn begin_change(&mut self) -> Outcome
-        ensures outcome { result ≡ outcome_of self.old }
+        ensures outcome { result ≡ next_outcome self.old }
         ensures after { self.new ≡ after_change self.old }
         ensures count { NeverFalls self.old.faults self.new.faults }
     {

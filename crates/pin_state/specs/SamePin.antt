@@ -10,7 +10,8 @@ use Rattle.pin_state.specs.PinOutcome.{PinOutcome}
 use Rattle.pin_state.specs.declared.decision.PinDecision.{PinDecision}
 
 abbrev pub same_puk : Puk → Puk → Bool
-same_puk one other = bytes_eq one.value other.value && ((one.max == other.max) && (one.left == other.left))
+same_puk one other = bytes_eq one.value other.value
+    && ((one.max == other.max) && (one.left == other.left))
 
 abbrev pub same_pin : PinRow → PinRow → Bool
 same_pin one other =
@@ -22,7 +23,8 @@ same_pin one other =
 abbrev pub set_row : PinRow → PinOutcome → Option PinRow
 set_row pin outcome = if same_pin outcome.pin pin then None else Some outcome.pin
 
--- what is decided on a PIN: the status word, the PIN's row where it changes, and whether it is verified
+-- what is decided on a PIN: the status word, the PIN's row where it changes, and whether it is
+-- verified
 abbrev pub decision_of : PinRow → PinOutcome → PinDecision
 decision_of pin outcome =
     record { sw = outcome.sw; row = set_row pin outcome; verified = outcome.verified }

@@ -1,10 +1,9 @@
-use Rattle.std.specs.Prelude.{ℕ, ◌+◌, ◌-◌, ◌*◌, Bool, true, false, ◌==◌, ◌&&◌, ◌||◌, nat_lt, nat_le, if◌then◌else◌, List, [], length, take, drop, Option, Some, None, option_and_then, option_map, unwrap_or, is_some}
+use Rattle.std.specs.Prelude.{ℕ, ◌+◌, ◌-◌, ◌*◌, Bool, false, ◌==◌, ◌&&◌, ◌||◌, nat_lt, nat_le, if◌then◌else◌, List, [], length, take, drop, Option, Some, None, option_and_then, option_map, unwrap_or, is_some}
 use Rattle.apdu_codec.specs.Command.{Apdu}
 use Rattle.apdu_codec.specs.Sw.{wrong_le}
 use Rattle.apdu_codec.specs.declared.status.Sw.{Sw}
 use Rattle.apdu_codec.specs.declared.status.TheConstants.Sw.{NO_CURRENT_EF, OK, WRONG_OFFSET}
-use Rattle.file_rows.specs.declared.head.Kind.{Kind}
-use Rattle.file_rows.specs.declared.head.Kind.TheVariants.{Master, Directory, Application, Transparent, Linear, Cyclic}
+use Rattle.file_rows.specs.FileHead.{is_transparent}
 use Rattle.file_rows.specs.declared.head.Rule.{Rule}
 use Rattle.file_rows.specs.declared.row.FileRow.{FileRow}
 use Rattle.uicc_channels.specs.Chan.{current_file}
@@ -14,14 +13,6 @@ use Rattle.uicc_channels.specs.Life.{life_refusal}
 use Rattle.uicc_channels.specs.Needs.{needs_of, refused_unless}
 use Rattle.uicc_channels.specs.Session.{open_channel}
 use Rattle.uicc_channels.specs.declared.session.Session.{Session}
-
-abbrev pub is_transparent : Kind → Bool
-is_transparent Master = false
-is_transparent Directory = false
-is_transparent Application = false
-is_transparent Transparent = true
-is_transparent Linear = false
-is_transparent Cyclic = false
 
 -- whether a file may be read: the access rules of the sample card's rows 1 and 2 always let read,
 -- and no key can be verified yet, so no other row does

@@ -193,7 +193,8 @@ impl Card1 {
         ensures { outcome_of self.now.session into.new
             ≡ decision (card_of self.now) (apdu_of command.now) }
     {
-        ins_rows!(case_arms: command.ins, instruction(self, command, into), into.set_status(Sw::WRONG_INSTRUCTION))
+        ins_rows!(case_arms: command.ins, instruction(self, command, into),
+            into.set_status(Sw::WRONG_INSTRUCTION))
     }
 
     /// Takes the memory that `settle` needs for a change. Without it nothing changes. Only FileAdd

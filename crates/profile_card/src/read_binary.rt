@@ -1,10 +1,11 @@
 ghost use Rattle.std.specs.Prelude.{◌≡◌, ◌+◌, ◌-◌, ◌<◌, ◌≤◌, ◌==◌, nat_le, nat_lt, length, take, drop, Some, None, MatchResult};
 ghost use Rattle.apdu_codec.specs.Command.{IsCommand, apdu_of};
+ghost use Rattle.file_rows.specs.FileHead.{is_transparent};
 ghost use Rattle.uicc_channels.specs.CommandOutcome.{outcome_of};
 ghost use Rattle.uicc_channels.specs.CommandRow.{Follows, decided};
 ghost use Rattle.uicc_channels.specs.Session.{IsOpen};
 ghost use Rattle.uicc_tree.specs.Files.{file_of, rows_of};
-ghost use Rattle.profile_card.specs.ReadBinary.{is_transparent, may_read as may_be_read, read_binary_row, read_refusal};
+ghost use Rattle.profile_card.specs.ReadBinary.{may_read as may_be_read, read_binary_row, read_refusal};
 
 use apdu_codec::{Command, Sw, class_fits};
 use file_rows::{Kind, Rule};

@@ -3,7 +3,7 @@ use Rattle.std.proofs.lemmas.Nat.{pow_below}
 use Rattle.std.proofs.lemmas.Nat.Bits.{bit_at-lt, bit_at-pow_other, bit_at-pow_same, bit_at_and, bit_at_not, bit_at_or}
 use Rattle.std.specs.Int.{bit_at, bit_not, w32}
 use Rattle.std.specs.Prelude.{bit_and, bit_or, min}
-use Rattle.uicc_channels.specs.Verified.{is_verified, with_pin}
+use Rattle.uicc_channels.specs.Verified.{is_verified, verified_after}
 
 -- 2 to a number below 32 fits 32 bits
 pow_fits : (k : ℕ) → k < 32 → 2 ^ k < 2 ^ 32
@@ -13,7 +13,7 @@ cleared : (n k i : ℕ) → k < 32 → i < 32 → bit_at (bit_and n (bit_not w32
 cleared n k i below within = bit_at_and n (bit_not w32 (2 ^ k)) i ∙ ap (λ (b : ℕ). min (bit_at n i) b) (bit_at_not w32 (2 ^ k) i (pow_fits k below) within)
 
 pub is_verified-with_pin_same : (verified number : ℕ) (now : Bool) → verified < 2 ^ 32 → 1 ≤ number → number ≤ 32
-    → is_verified (with_pin verified number now) number ≡ now
+    → is_verified (verified_after verified number now) number ≡ now
 is_verified-with_pin_same verified number true fits first last =
     let bit : bit_at (bit_or verified (2 ^ (number - 1))) (number - 1) ≡ 1 =
     rw (bit_at_or verified (2 ^ (number - 1)) (number - 1), bit_at-pow_same (number - 1))
@@ -26,7 +26,7 @@ is_verified-with_pin_same verified number false fits first last =
     rw bit refl
 
 pub is_verified-with_pin_other : (verified number other : ℕ) (now : Bool) → verified < 2 ^ 32 → 1 ≤ number → number ≤ 32
-    → 1 ≤ other → other ≤ 32 → other ≢ number → is_verified (with_pin verified number now) other ≡ is_verified verified other
+    → 1 ≤ other → other ≤ 32 → other ≢ number → is_verified (verified_after verified number now) other ≡ is_verified verified other
 is_verified-with_pin_other verified number other true fits first last begin end apart =
     let place : other - 1 ≢ number - 1 = λ e. apart (omega (arith, e)) in
     let bit : bit_at (bit_or verified (2 ^ (number - 1))) (other - 1) ≡ bit_at verified (other - 1) =

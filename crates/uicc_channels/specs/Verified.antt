@@ -6,6 +6,6 @@ abbrev pub is_verified : ℕ → ℕ → Bool
 is_verified verified number = bit_at verified (number - 1) == 1
 
 -- the verified PINs with one of them verified, or not
-abbrev pub with_pin : ℕ → ℕ → Bool → ℕ
-with_pin verified number true = bit_or verified (2 ^ (number - 1))
-with_pin verified number false = bit_and verified (bit_not w32 (2 ^ (number - 1)))
+abbrev pub verified_after : ℕ → ℕ → Bool → ℕ
+verified_after verified number true = bit_or verified (2 ^ (number - 1))
+verified_after verified number false = bit_and verified (bit_not w32 (2 ^ (number - 1)))

@@ -6,7 +6,7 @@ ghost use Rattle.file_rows.specs.declared.row.FileRow.{FileRow};
 ghost use Rattle.uicc_channels.specs.Chan.{StandsAmong, at_isdr, at_master, holding};
 ghost use Rattle.uicc_channels.specs.Delivery.{delivered};
 ghost use Rattle.uicc_channels.specs.Session.{Suits, channel_at, fresh_session, with_channel};
-ghost use Rattle.uicc_channels.specs.Verified.{is_verified, with_pin};
+ghost use Rattle.uicc_channels.specs.Verified.{is_verified, verified_after};
 ghost use Rattle.uicc_channels.specs.declared.chan.Chan.{Chan};
 ghost use Rattle.uicc_channels.specs.declared.session.Session.{Session};
 ghost use Rattle.uicc_channels.specs.declared.session.TheConstants.{CHANNELS};
@@ -63,9 +63,9 @@ pub fn sessions_suit_their_cards()
 /// it was.
 pub fn verified_pins_stand_apart()
     ensures same { (verified number : ℕ) (now : Bool) → verified < 2 ^ 32 → 1 ≤ number → number ≤ 32
-        → is_verified (with_pin verified number now) number ≡ now }
+        → is_verified (verified_after verified number now) number ≡ now }
     ensures others { (verified number other : ℕ) (now : Bool) → verified < 2 ^ 32 → 1 ≤ number
         → number ≤ 32
         → 1 ≤ other → other ≤ 32 → other ≢ number
-        → is_verified (with_pin verified number now) other ≡ is_verified verified other }
+        → is_verified (verified_after verified number now) other ≡ is_verified verified other }
 {}

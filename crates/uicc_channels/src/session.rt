@@ -1,6 +1,6 @@
 ghost use Rattle.std.specs.Prelude.{◌≡◌, ◌+◌, ◌<◌, ◌≤◌, ◌++◌, length, IfSome, option_copied};
 ghost use Rattle.uicc_channels.specs.Session.{IsOpen, channel_at, fresh_session, open_channel, reset_session};
-ghost use Rattle.uicc_channels.specs.Verified.{is_verified, with_pin};
+ghost use Rattle.uicc_channels.specs.Verified.{is_verified, verified_after};
 
 use crate::Chan;
 use plain_lists::ShortList;
@@ -96,7 +96,7 @@ impl Session {
     pub fn verified_with(&self, pin: u8, verified: bool) -> u32
         requires first { 1 ≤ pin }
         requires last { pin ≤ 32 }
-        ensures { result ≡ with_pin self.now.verified pin verified }
+        ensures { result ≡ verified_after self.now.verified pin verified }
     {
         let bit = 1 << (pin - 1);
         if verified {

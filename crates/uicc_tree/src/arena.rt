@@ -202,7 +202,8 @@ impl Arena {
         ensures slots { (length self.new.slots.items ≡ length self.old.slots.items)
             × (vec_capacity self.new.slots ≡ vec_capacity self.old.slots) }
         ensures order { self.new.order ≡ self.old.order }
-        ensures ok { OnOk result (IsTrue (slice_index_or (child_room_of self.new) directory false)) }
+        ensures ok { OnOk result (IsTrue
+            (slice_index_or (child_room_of self.new) directory false)) }
     {
         let slot = &mut self.slots[directory as usize];
         slot.children.reserve(1)

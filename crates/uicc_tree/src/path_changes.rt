@@ -27,7 +27,8 @@ impl Arena {
         requires arena { IsArena self.old }
         requires there { IsSomeAnd (file_at path.now (rows_of (files_of self.old)))
             (λ row. IsRecordFor row number bytes.now × IsRow row) }
-        ensures { ChangesFile self.old self.new path.now (with_body (with_record number bytes.now)) }
+        ensures { ChangesFile self.old self.new path.now
+            (with_body (with_record number bytes.now)) }
     {
         if let Some(node) = self.find(path) {
             if number == 0 {
@@ -53,7 +54,8 @@ impl Arena {
         requires arena { IsArena self.old }
         requires live { IsLive (files_of self.old) node }
         requires room { size ≤ slice_index (body_room_of self.old) node }
-        ensures { ChangesFile self.old self.new (path_of (files_of self.old) node) (with_size size) }
+        ensures { ChangesFile self.old self.new (path_of (files_of self.old) node)
+            (with_size size) }
     {
         self.resize(node, size);
     }

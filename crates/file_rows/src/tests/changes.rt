@@ -36,7 +36,8 @@ fn pin(rt: &impl Abort, number: u8, home: &[u16], key: u8, left: u8) -> PinRow {
     }
 }
 
-// The MF with a file of two bytes, and a directory with a cyclic file of three records; a PIN at home in each.
+// The MF with a file of two bytes, and a directory with a cyclic file of three records; a PIN at
+// home in each.
 fn card(rt: &impl Abort, alloc: Global) -> Result<Content, NoMemory> {
     let mut rows = LongList::new(alloc);
     rows.push(FileRow {

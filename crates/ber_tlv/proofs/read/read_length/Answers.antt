@@ -1,5 +1,5 @@
 use Rattle.std.proofs.Common.{arith}
-use Rattle.ber_tlv.proofs.Fronts.{length_1, length_2, length_3, length_4}
+use Rattle.ber_tlv.proofs.Prefixes.{length_1, length_2, length_3, length_4}
 use Rattle.ber_tlv.proofs.read.read_length.Goals as goal
 
 pub returns-in-131 : goal.returns-in-131

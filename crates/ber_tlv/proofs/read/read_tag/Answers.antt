@@ -1,5 +1,5 @@
 use Rattle.std.proofs.Common.{arith}
-use Rattle.ber_tlv.proofs.Fronts.{tag_1, tag_2, tag_3}
+use Rattle.ber_tlv.proofs.Prefixes.{tag_1, tag_2, tag_3}
 use Rattle.ber_tlv.proofs.read.read_tag.Goals as goal
 
 pub returns-in-len1-up : goal.returns-in-len1-up

@@ -4,14 +4,14 @@ use Rattle.flash_pages.specs.declared.plan.Outcome.{Outcome}
 use Rattle.flash_pages.specs.Bytes.{blank, patch, repeated}
 use Rattle.flash_pages.specs.Left.{left_by, with_left}
 use Rattle.flash_pages.specs.Past.{Write, after_call}
-use Rattle.flash_pages.specs.Plan.{outcome_of}
+use Rattle.flash_pages.specs.Plan.{next_outcome}
 use Rattle.flash_pages.proofs.MemoryCalls.{left_torn}
 use Rattle.flash_pages.proofs.memory.MemoryFlash.begin.Goals as goal
 
 pub returns-in-Torn-clause-err : goal.returns-in-Torn-clause-err
 returns-in-Torn-clause-err c =
     let old = c.args.self.now in
-    let left : left_by (outcome_of old.power) old.history.torn (blank c.args.len) ≡ Some
+    let left : left_by (next_outcome old.power) old.history.torn (blank c.args.len) ≡ Some
     (repeated old.history.torn c.args.len) =
     ap (λ (o : Outcome). left_by o old.history.torn (blank c.args.len))
     (sym c.in-Torn.ensures.outcome) ∙ left_torn old.history.torn c.args.len in

@@ -5,7 +5,7 @@ use Rattle.flash_pages.specs.declared.plan.Outcome.{Outcome}
 use Rattle.flash_pages.specs.Bytes.{blank, patch}
 use Rattle.flash_pages.specs.Left.{left_by, with_left}
 use Rattle.flash_pages.specs.Past.{Past, Write, after_call}
-use Rattle.flash_pages.specs.Plan.{outcome_of}
+use Rattle.flash_pages.specs.Plan.{next_outcome}
 use Rattle.flash_pages.proofs.Patches.{length-blank, length-patch}
 use Rattle.flash_pages.proofs.MemoryCalls.{IsKept, Changes-memory, kept_after, content-write, erased_block, left_size, is_done-is, not_ok}
 use Rattle.flash_pages.proofs.memory.MemoryFlashFlash.erase.Goals as goal
@@ -14,13 +14,13 @@ pub returns-in_err-begin-clause-changes : goal.returns-in_err-begin-clause-chang
 returns-in_err-begin-clause-changes c =
     let old = c.args.self.now in
     let at = 4096 * c.args.block in
-    let left = left_by (outcome_of old.power) old.history.torn (blank 4096) in
+    let left = left_by (next_outcome old.power) old.history.torn (blank 4096) in
     let fits : at + 4096 ≤ length old.bytes.items = omega (arith, c.requires, old.sized) in
     let err = c.in_err-begin.ensures.err in
     Changes-memory old.history.past c.begin.new.self.history.past at 4096 left false old.bytes.items
     _ (blank 4096) _ _
     _ _ _ _ c.from_residual.result err.1 old.replays err.0 (length-blank 4096) fits
-    (left_size (outcome_of old.power) old.history.torn 4096) (λ says. absurd (false≢true says))
+    (left_size (next_outcome old.power) old.history.torn 4096) (λ says. absurd (false≢true says))
     (not_ok c.from_residual.result c.from_residual.ensures.0)
     (omega (arith, c.begin.ensures.programmed))
     (omega (arith, c.begin.ensures.erased)) c.begin.ensures.count
@@ -80,7 +80,7 @@ returns-clause-left c =
     let erased =
     erased_block old.bytes.items c.deref_mut.result.now c.tear.new.content at c.tear.ensures
     (c.deref_mut.ensures.value ∙ c.in_ok-begin.ensures.ok.0) in
-    let is_done = is_done-is (outcome_of old.power) (sym c.in_ok-begin.ensures.answer) in
+    let is_done = is_done-is (next_outcome old.power) (sym c.in_ok-begin.ensures.answer) in
     with_items_is c.begin.new.self.bytes c.tear.new.content
     (c.tear.auto.content ∙ c.deref_mut.ensures.len) ∙ erased
     ∙ ap (λ (o : Outcome). with_left old.bytes.items at (left_by o old.history.torn (blank 4096)))

@@ -4,7 +4,7 @@ use Rattle.std.proofs.lemmas.List.{with_items_is}
 use Rattle.flash_pages.specs.Bytes.{blank, patch}
 use Rattle.flash_pages.specs.Left.{left_by}
 use Rattle.flash_pages.specs.Past.{Past, Write, after_call}
-use Rattle.flash_pages.specs.Plan.{outcome_of}
+use Rattle.flash_pages.specs.Plan.{next_outcome}
 use Rattle.flash_pages.proofs.MemoryCalls.{Changes-memory, left_size, not_ok}
 use Rattle.flash_pages.proofs.memory.MemoryFlashFlash.program.Goals as goal
 
@@ -12,14 +12,14 @@ pub returns-in_err-begin-clause-changes : goal.returns-in_err-begin-clause-chang
 returns-in_err-begin-clause-changes c =
     let old = c.args.self.now in
     let n = length c.args.bytes.now in
-    let left = left_by (outcome_of old.power) old.history.torn (blank n) in
+    let left = left_by (next_outcome old.power) old.history.torn (blank n) in
     let fits : c.args.at + n ≤ length old.bytes.items =
     omega (arith, c.requires.piece.inside, old.sized) in
     let err = c.in_err-begin.ensures.err in
     Changes-memory old.history.past c.begin.new.self.history.past c.args.at n left false
     old.bytes.items _
     c.args.bytes.now _ _ _ _ _ _ c.from_residual.result err.1 old.replays err.0 refl fits
-    (left_size (outcome_of old.power) old.history.torn n) (λ says. absurd (false≢true says))
+    (left_size (next_outcome old.power) old.history.torn n) (λ says. absurd (false≢true says))
     (not_ok c.from_residual.result c.from_residual.ensures.0)
     (omega (arith, c.begin.ensures.programmed))
     (omega (arith, c.begin.ensures.erased)) c.begin.ensures.count
