@@ -1,3 +1,4 @@
+//! What a card lets be done with its files (ETSI TS 102 221, access rules): what a record of an
 //! EF ARR allows, and which keys the PINs of a card meet. Nothing here takes memory.
 #![tactic(auto)]
 

@@ -21,7 +21,7 @@ abbrev pub LeadWith : List ℕ → List Object → List ℕ → Type 0
 LeadWith bytes [] rest = bytes ≡ rest
 LeadWith bytes (object ∷ objects) rest =
     (behind : List ℕ) × BeginsWith bytes object.tag object.value behind
-        × LeadWith behind objects rest
+    × LeadWith behind objects rest
 
 -- the objects in their shortest spellings, one after another
 abbrev pub spelled : List Object → List ℕ

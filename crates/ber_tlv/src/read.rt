@@ -92,7 +92,7 @@ pub fn read_tlv(bytes: &[u8]) -> Result<(Tlv<'_>, usize), TlvFault>
     // What the bytes begin with is read.
     ensures only { (tag : ℕ) (value rest : List ℕ) → BeginsWith bytes.now tag value rest
         → IsOkAnd result (λ r. (r.0.tag ≡ tag) × (r.0.value.now ≡ value)
-            × (r.1 + length rest ≡ length bytes.now)) }
+        × (r.1 + length rest ≡ length bytes.now)) }
     // Each fault comes exactly where it is the first.
     ensures refused { (fault : TlvFault) → IsErrOf result fault ↔ Refuses bytes.now fault }
 {

@@ -29,7 +29,7 @@ impl<const N: usize> CaseRows<N> {
         // Where they differ each row is the one that its key finds.
         ensures each_row { IsTrue result → (i : ℕ) → i < N
             → value_of self.now (slice_index self.now.keys i)
-                ≡ Some (slice_index self.now.values i) }
+            ≡ Some (slice_index self.now.values i) }
     {
         let mut rest = self.keys.as_slice();
         while let Some((key, others)) = rest.split_first() {

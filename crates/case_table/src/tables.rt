@@ -35,5 +35,5 @@ pub fn one_row_for_each_key()
         → value_of INS_ROWS (slice_index INS_ROWS.keys i) ≡ Some (slice_index INS_ROWS.values i) }
     ensures each_status { (i : ℕ) → i < 32
         → value_of STATUS_ROWS (slice_index STATUS_ROWS.keys i)
-            ≡ Some (slice_index STATUS_ROWS.values i) }
+        ≡ Some (slice_index STATUS_ROWS.values i) }
 {}
