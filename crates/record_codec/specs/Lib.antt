@@ -1,0 +1,17 @@
+pub mod Apply
+pub mod Bind
+pub mod Content
+pub mod Fields
+pub mod Fits
+pub mod Gone
+pub mod Heads
+pub mod IsDurable
+pub mod Local
+pub mod Name
+pub mod NoteGone
+pub mod Noted
+pub mod PutCard
+pub mod PutProfile
+pub mod Sizes
+pub mod Spelling
+pub mod Unbind

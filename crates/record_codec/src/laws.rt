@@ -1,0 +1,27 @@
+ghost use Rattle.std.specs.Prelude.{◌≡◌, ◌≢◌, ℕ, List, length};
+ghost use Rattle.file_rows.specs.declared.change.Change.{Change};
+ghost use Rattle.record_codec.specs.Apply.{apply};
+ghost use Rattle.record_codec.specs.Fits.{Fits};
+ghost use Rattle.record_codec.specs.Sizes.{Codes};
+ghost use Rattle.record_codec.specs.Heads.{content_of, head_of};
+ghost use Rattle.record_codec.specs.Local.{TouchesContent};
+ghost use Rattle.record_codec.specs.declared.durable.Durable.{Durable};
+ghost use Rattle.record_codec.specs.declared.record.Record.{Record};
+
+/// A record leaves alone what it doesn't name: the content of each profile that it neither puts,
+/// changes nor takes away. A change of a content leaves all heads alone, with the ports and the
+/// notifications.
+pub fn records_are_local()
+    ensures contents { (durable : Durable) (entry : Record) (profile : ℕ)
+        → length durable.contents ≡ length durable.heads.profiles
+        → ¬ TouchesContent entry profile
+        → content_of profile (apply durable entry) ≡ content_of profile durable }
+    ensures heads { (durable : Durable) (profile : ℕ) (change : Change)
+        → (apply durable (Record.Content profile change)).heads ≡ durable.heads }
+{}
+
+/// A record has one coding.
+pub fn codings_are_unique()
+    ensures coding { (one other : List ℕ) (entry : Record) → Codes one entry → Codes other entry
+        → one ≡ other }
+{}

@@ -1,0 +1,16 @@
+//! What a card holds, and the records of its changes: their effect and their coding.
+#![tactic(auto)]
+
+mod durable;
+mod laws;
+mod profile;
+mod record;
+
+pub use durable::{Durable, Heads, ProfileList};
+pub use laws::{codings_are_unique, records_are_local};
+pub use profile::{BoxedProfile, Label, NoteTarget, Profile, ProfileHead, Provider, Targets};
+pub use record::{Numbers, Record};
+pub use std::alloc::AllocError as NoMemory;
+
+#[cfg(test)]
+mod tests;
