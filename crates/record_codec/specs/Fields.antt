@@ -38,8 +38,11 @@ option spelled None = byte 0
 option spelled (Some x) = byte 1 & spelled x
 
 -- a flag: 01 where it is set, else 00
+abbrev pub flag_byte : Bool → ℕ
+flag_byte set = if set then 1 else 0
+
 abbrev pub flag : Bool → List ℕ
-flag set = byte (if set then 1 else 0)
+flag set = byte (flag_byte set)
 
 -- a path: a count byte, and the identifiers
 abbrev pub path : List ℕ → List ℕ

@@ -12,6 +12,7 @@ pub mod NoteGone
 pub mod Noted
 pub mod PutCard
 pub mod PutProfile
+pub mod Reading
 pub mod Sizes
 pub mod Spelling
 pub mod Unbind

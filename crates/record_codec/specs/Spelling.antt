@@ -22,29 +22,41 @@ use Rattle.record_codec.specs.declared.profile.ProfileHead.{ProfileHead}
 use Rattle.record_codec.specs.declared.record.Record.{Record}
 use Rattle.record_codec.specs.declared.record.Record.TheVariants as records
 
+abbrev pub mode_byte : PortMode → ℕ
+mode_byte A1 = 0
+mode_byte A2 = 1
+mode_byte B = 2
+
 abbrev pub mode : PortMode → List ℕ
-mode A1 = byte 0
-mode A2 = byte 1
-mode B = byte 2
+mode value = byte (mode_byte value)
+
+abbrev pub operation_byte : Operation → ℕ
+operation_byte Install = 0
+operation_byte Enable = 1
+operation_byte Disable = 2
+operation_byte Delete = 3
 
 abbrev pub operation : Operation → List ℕ
-operation Install = byte 0
-operation Enable = byte 1
-operation Disable = byte 2
-operation Delete = byte 3
+operation value = byte (operation_byte value)
+
+abbrev pub kind_byte : Kind → ℕ
+kind_byte Master = 0
+kind_byte Directory = 1
+kind_byte Application = 2
+kind_byte Transparent = 3
+kind_byte Linear = 4
+kind_byte Cyclic = 5
 
 abbrev pub kind : Kind → List ℕ
-kind Master = byte 0
-kind Directory = byte 1
-kind Application = byte 2
-kind Transparent = byte 3
-kind Linear = byte 4
-kind Cyclic = byte 5
+kind value = byte (kind_byte value)
+
+abbrev pub life_byte : Life → ℕ
+life_byte Active = 0
+life_byte Deactivated = 1
+life_byte Terminated = 2
 
 abbrev pub life : Life → List ℕ
-life Active = byte 0
-life Deactivated = byte 1
-life Terminated = byte 2
+life value = byte (life_byte value)
 
 abbrev pub rule : Rule → List ℕ
 rule r = number2 r.file & byte r.row

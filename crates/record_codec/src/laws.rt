@@ -20,8 +20,10 @@ pub fn records_are_local()
         → (apply durable (Record.Content profile change)).heads ≡ durable.heads }
 {}
 
-/// A record has one coding.
+/// A record has one coding, and a coding is that of one record.
 pub fn codings_are_unique()
+    ensures entry { (bytes : List ℕ) (one other : Record) → Codes bytes one → Codes bytes other
+        → one ≡ other }
     ensures coding { (one other : List ℕ) (entry : Record) → Codes one entry → Codes other entry
         → one ≡ other }
 {}
