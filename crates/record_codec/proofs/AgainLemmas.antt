@@ -81,7 +81,7 @@ unfolding file_at
 file_reads row rest fits =
     ap (λ (bytes : List ℕ). file_at bytes) (append_assoc (form row.head) (string row.body) rest)
     ∙ rw (form_again row.head (string row.body ++ rest) fits.0.0, (string_again 65535 (omega arith)).reads row.body rest fits.0.1)
-    (ap (λ (size : ℕ). Some (record { head = head_from (parts row.head) size; body = row.body }, rest)) (sym fits.1))
+    (ap (λ (size : ℕ). Some (record { head = head_from (parts row.head) size; body = row.body }, rest)) fits.1)
 
 file_again : Again file IsFile file_at
 file_again = record { reads = file_reads }
@@ -184,5 +184,5 @@ some_is x y e = cc
 pub one_record : (bytes : List ℕ) (one other : Record) → Codes bytes one → Codes bytes other → one ≡ other
 one_record bytes one other first second =
     let read : Some (one, []) ≡ Some (other, []) =
-        sym (whole_again one first.values) ∙ ap record_at (sym first.bytes_are ∙ second.bytes_are) ∙ whole_again other second.values in
+    sym (whole_again one first.values) ∙ ap record_at (sym first.bytes_are ∙ second.bytes_are) ∙ whole_again other second.values in
     ap (λ (found : Record × List ℕ). found.0) (some_is (one, []) (other, []) read)

@@ -1,3 +1,4 @@
 pub mod AgainLemmas
 pub mod FieldLemmas
 pub mod LocalLemmas
+pub mod WindowLemmas

@@ -16,3 +16,4 @@ pub mod Reading
 pub mod Sizes
 pub mod Spelling
 pub mod Unbind
+pub mod Window

@@ -61,7 +61,7 @@ IsFileHead head = IsForm head also IsNumber2 head.size
 
 -- a file's size is that of its body
 abbrev pub IsFile : FileRow → Type 0
-IsFile row = (IsForm row.head also IsString 65535 row.body) × (row.head.size ≡ length row.body)
+IsFile row = (IsForm row.head also IsString 65535 row.body) × (length row.body ≡ row.head.size)
 
 abbrev pub IsPuk : Puk → Type 0
 IsPuk p = IsPlain 8 p.value also IsByte p.max also IsByte p.left
@@ -118,3 +118,17 @@ HasCoding (records.NoteGone number) = IsNumber4 number
 pub record Codes (bytes : List ℕ) (entry : Record) : Type 0 where
   pub values : HasCoding entry
   pub bytes_are : bytes ≡ spelling entry
+
+-- The lists of a record have room in its coding, and each of its files is as long as its head says.
+-- A record that fits has them so.
+abbrev pub HasSizes : Record → Type 0
+HasSizes (records.PutCard how ports eid next_number next_note notes) = length notes ≤ 65535
+HasSizes (records.PutProfile installation profile port) =
+    (length profile.content.rows ≤ 65535) × (length profile.content.pins ≤ 65535)
+    × AllByRecursion (λ row. length row.body ≡ row.head.size) profile.content.rows
+HasSizes (records.Content profile its) = ⊤
+HasSizes (records.Bind profile port displaced) = ⊤
+HasSizes (records.Unbind profile) = ⊤
+HasSizes (records.Gone profiles) = ⊤
+HasSizes (records.Name profile nickname) = ⊤
+HasSizes (records.NoteGone number) = ⊤

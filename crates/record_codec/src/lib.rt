@@ -4,7 +4,10 @@
 mod durable;
 mod laws;
 mod profile;
+mod put;
+mod put_change;
 mod record;
+mod window;
 
 pub use durable::{Durable, Heads, ProfileList};
 pub use laws::{codings_are_unique, records_are_local};
