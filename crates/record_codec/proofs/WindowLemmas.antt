@@ -1,7 +1,7 @@
 -- Bytes put into a buffer, one field after another.
 use Rattle.std.proofs.Common.{◌≡◌, ◌≤◌, ◌<◌, ◌+◌, ◌-◌, ℕ, zero, suc, min, List, [], ◌∷◌, ◌++◌, length, take, drop, refl, sym, ap, subst, ◌∙◌, append_assoc, arith, inl, inr}
 use Rattle.std.proofs.lemmas.Bool.{cases_lt}
-use Rattle.std.proofs.lemmas.List.{append-nil, take_all, take_at, drop_at, length-append, length-take, length-drop}
+use Rattle.std.proofs.lemmas.List.{append-nil, nil_from_length, take_all, take_at, drop_at, length-append, length-take, length-drop}
 use Rattle.std.proofs.lemmas.Slice.{drop-append-drop}
 use Rattle.record_codec.specs.Fields.{◌&◌}
 use Rattle.record_codec.specs.Window.{Puts, Shows, shown}
@@ -104,3 +104,43 @@ pub then_three : (one two three : List ℕ) {others : List ℕ} {a b c : Place} 
     → Puts (one & two & three & others) a x c z
 then_three one two three {others} {a} {b} {c} {x} {y} {z} first second =
     subst (λ (text : List ℕ). Puts text a x c z) (append_assoc one (two ++ three) others ∙ ap (λ (t : List ℕ). one ++ t) (append_assoc two three others)) (then first second)
+
+-- four fields, and then others
+pub then_four : (one two three four : List ℕ) {others : List ℕ} {a b c : Place} {x y z : List ℕ} → Puts (one & two & three & four) a x b y → Puts others b y c z
+    → Puts (one & two & three & four & others) a x c z
+then_four one two three four {others} {a} {b} {c} {x} {y} {z} first second =
+    subst (λ (text : List ℕ). Puts text a x c z)
+    (append_assoc one (two ++ (three ++ four)) others
+    ∙ ap (λ (t : List ℕ). one ++ t) (append_assoc two (three ++ four) others ∙ ap (λ (t : List ℕ). two ++ t) (append_assoc three four others)))
+    (then first second)
+
+drop_nil : (n : ℕ) → drop {A = ℕ} n [] ≡ []
+drop_nil zero = refl
+drop_nil (suc n) = refl
+
+take_nil : (n : ℕ) → take {A = ℕ} n [] ≡ []
+take_nil zero = refl
+take_nil (suc n) = refl
+
+-- what a whole coding leaves in a buffer that had nothing of it
+pub shows_whole : (at : ℕ) (text first : List ℕ) (old new : Place) (after : List ℕ) → old.skip ≡ at → old.filled ≡ 0 → Puts text old first new after
+    → Shows at text first new after
+shows_whole at text first old new after skip filled puts = puts.more at [] first (record {
+  skip = omega (arith, skip);
+  filled = filled ∙ sym (ap length none);
+  buffer = sym (ap (λ (seen : List ℕ). seen ++ drop old.filled first) none ∙ ap (λ k. drop k first) filled);
+})
+  where
+    none : shown at (length first) [] ≡ []
+    none = ap (take (length first)) (drop_nil at) ∙ take_nil (length first)
+
+module _ (at : ℕ) (text first : List ℕ) (new : Place) (after : List ℕ) (shows : Shows at text first new after) where
+  part : new.filled ≡ min (length first) (length (drop at text))
+  part = omega (arith, shows.filled, length-take (length first) (drop at text))
+
+  pub whole_count : new.filled ≡ min (length first) (length text - at)
+  whole_count = omega (arith, part, length-drop at text)
+
+  pub whole_filled : after ≡ take new.filled (drop at text) ++ drop new.filled first
+  whole_filled = shows.buffer ∙ ap (λ (seen : List ℕ). seen ++ drop new.filled first)
+      (sym (ap (λ k. take k (drop at text)) part ∙ take_min (length first) (drop at text)))

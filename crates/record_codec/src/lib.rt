@@ -8,12 +8,14 @@ mod put;
 mod put_change;
 mod record;
 mod window;
+mod writing;
 
 pub use durable::{Durable, Heads, ProfileList};
 pub use laws::{codings_are_unique, records_are_local};
 pub use profile::{BoxedProfile, Label, NoteTarget, Profile, ProfileHead, Provider, Targets};
 pub use record::{Numbers, Record};
 pub use std::alloc::AllocError as NoMemory;
+pub use writing::{put_record, record_len};
 
 #[cfg(test)]
 mod tests;

@@ -1,0 +1,70 @@
+//! The coding of each kind of record, byte by byte as the table of records has it, and each call
+//! once.
+ghost use Rattle.record_codec.specs.Sizes.{HasSizes};
+ghost use Rattle.record_codec.specs.Spelling.{spelling};
+ghost use Rattle.std.specs.Prelude.{◌<◌, ◌^◌, length};
+
+use super::*;
+use file_rows::{
+    Change, Content, FileHead, FileRow, Kind, Life, Name, Path, Piece, PinRow, Puk, Rule,
+};
+use notify_list::{Address, Note, Operation};
+use plain_lists::LongList;
+use port_table::PortMode;
+use std::alloc::Global;
+use std::test::*;
+
+// The coding, put as a whole and in two parts.
+fn is_coded(rt: &HostRuntime, entry: &Record, expected: &[u8])
+    requires sizes { HasSizes entry.now }
+    requires few { length (spelling entry.now) < 2 ^ 32 }
+{
+    let mut bytes = [0xEE; 256];
+    assert_eq!(rt; record_len(entry) as usize, expected.len());
+    let count = put_record(entry, 0, &mut bytes);
+    assert_eq!(rt; count, expected.len());
+    assert!(rt; bytes.starts_with(expected));
+    let mut part = [0xEE; 3];
+    let count = put_record(entry, 2, &mut part);
+    assert!(rt; count <= 3);
+    assert!(rt; expected.len() < 2 || expected[2..].starts_with(&part[..count]));
+}
+
+#[test]
+fn a_change_of_a_content_is_coded(rt: HostRuntime) {
+    let change = Change::WriteRange {
+        path: Path::from_slice(&[0x2FE2]),
+        offset: 3,
+        bytes: Piece::from_slice(&[0xAA, 0xBB]),
+    };
+    let entry = Record::Content {
+        profile: 1100,
+        change,
+    };
+    let coding = [3, 0x04, 0x4C, 0, 1, 0x2F, 0xE2, 0, 3, 0, 2, 0xAA, 0xBB];
+    is_coded(&rt, &entry, &coding);
+}
+
+#[test]
+fn ports_names_and_notifications_are_coded(rt: HostRuntime) {
+    let bind = Record::Bind {
+        profile: 1101,
+        port: 2,
+        displaced: Some(1100),
+    };
+    is_coded(&rt, &bind, &[4, 0x04, 0x4D, 2, 1, 0x04, 0x4C]);
+    is_coded(&rt, &Record::Unbind { profile: 1101 }, &[5, 0x04, 0x4D]);
+    let gone = Record::Gone {
+        profiles: Numbers::from_slice(&[1100, 1101]),
+    };
+    is_coded(&rt, &gone, &[6, 0, 2, 0x04, 0x4C, 0x04, 0x4D]);
+    let name = Record::Name {
+        profile: 1100,
+        nickname: Label::from_slice(b"Work"),
+    };
+    is_coded(&rt, &name, &[7, 0x04, 0x4C, 0, 4, 0x57, 0x6F, 0x72, 0x6B]);
+    let note = Record::NoteGone {
+        number: 0x0102_0304,
+    };
+    is_coded(&rt, &note, &[8, 1, 2, 3, 4]);
+}
