@@ -1,4 +1,6 @@
 pub mod AgainLemmas
 pub mod FieldLemmas
 pub mod LocalLemmas
+pub mod RecordTakes
+pub mod TakesLemmas
 pub mod WindowLemmas

@@ -1,7 +1,8 @@
-ghost use Rattle.std.specs.Prelude.{◌≡◌, ◌≢◌, ℕ, List, length};
+ghost use Rattle.std.specs.Prelude.{◌≡◌, ◌≢◌, ◌<◌, ◌↔◌, [], Some, slice_index_or, ℕ, List, length};
 ghost use Rattle.file_rows.specs.declared.change.Change.{Change};
 ghost use Rattle.record_codec.specs.Apply.{apply};
 ghost use Rattle.record_codec.specs.Fits.{Fits};
+ghost use Rattle.record_codec.specs.Reading.{record_at};
 ghost use Rattle.record_codec.specs.Sizes.{Codes};
 ghost use Rattle.record_codec.specs.Heads.{content_of, head_of};
 ghost use Rattle.record_codec.specs.Local.{TouchesContent};
@@ -18,6 +19,12 @@ pub fn records_are_local()
         → content_of profile (apply durable entry) ≡ content_of profile durable }
     ensures heads { (durable : Durable) (profile : ℕ) (change : Change)
         → (apply durable (Record.Content profile change)).heads ≡ durable.heads }
+{}
+
+/// Bytes are read as a record exactly where they are its coding.
+pub fn reading_is_of_codings()
+    ensures { (bytes : List ℕ) (entry : Record) → ((i : ℕ) → slice_index_or bytes i 0 < 256)
+        → (record_at bytes ≡ Some (entry, [])) ↔ Codes bytes entry }
 {}
 
 /// A record has one coding, and a coding is that of one record.

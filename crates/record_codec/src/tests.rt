@@ -11,11 +11,11 @@ use file_rows::{
 use notify_list::{Address, Note, Operation};
 use plain_lists::LongList;
 use port_table::PortMode;
-use std::alloc::Global;
+use std::process::Abort;
 use std::test::*;
 
 // The coding, put as a whole and in two parts.
-fn is_coded(rt: &HostRuntime, entry: &Record, expected: &[u8])
+fn is_coded(rt: &impl Abort, entry: &Record, expected: &[u8])
     requires sizes { HasSizes entry.now }
     requires few { length (spelling entry.now) < 2 ^ 32 }
 {
