@@ -3,6 +3,7 @@ pub mod Bind
 pub mod Content
 pub mod Fields
 pub mod Fits
+pub mod Gives
 pub mod Gone
 pub mod Heads
 pub mod IsDurable

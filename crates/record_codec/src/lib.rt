@@ -2,16 +2,19 @@
 #![tactic(auto)]
 
 mod durable;
+mod fault;
 mod laws;
 mod profile;
 mod put;
 mod put_change;
+mod read_fields;
 mod record;
 mod window;
 mod writing;
 
 pub use durable::{Durable, Heads, ProfileList};
-pub use laws::{codings_are_unique, records_are_local};
+pub use fault::RecordFault;
+pub use laws::{codings_are_unique, reading_is_of_codings, records_are_local};
 pub use profile::{BoxedProfile, Label, NoteTarget, Profile, ProfileHead, Provider, Targets};
 pub use record::{Numbers, Record};
 pub use std::alloc::AllocError as NoMemory;
