@@ -1,6 +1,7 @@
 pub mod AgainLemmas
 pub mod FieldLemmas
 pub mod LocalLemmas
+pub mod LoopLemmas
 pub mod RecordTakes
 pub mod TakesLemmas
 pub mod WindowLemmas

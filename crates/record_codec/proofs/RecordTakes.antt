@@ -1,6 +1,6 @@
 -- What was read as a record is its coding.
 use Rattle.std.proofs.Common.{◌≡◌, ℕ, zero, suc, List, [], ◌∷◌, ◌++◌, length, Option, Some, None, Bool, true, false, refl, sym, ap, subst, ◌∙◌}
-use Rattle.std.specs.Prelude.{IfSome, ⊤}
+use Rattle.std.specs.Prelude.{Err, IfSome, IsErrOf, ⊤}
 use Rattle.std.specs.Int.{w16, w32, w64}
 use Rattle.std.proofs.lemmas.List.{append-nil}
 use Rattle.file_rows.specs.declared.change.Change.{Change}
@@ -13,6 +13,10 @@ use Rattle.record_codec.specs.Fields.{◌&◌, byte, flag, flag_byte, number2}
 use Rattle.record_codec.specs.Reading.{◌>>=◌, Form, Reader, both_at, byte_at, change_at, change_of, file_at, file_head_at, flag_of, form_at, head_from, kind_of, life_of, list_at, made_at, mode_of, note_at, number_at, one_at, operation_of, option_at, path_at, pin_at, plain_at, profile_head_at, puk_at, record_at, record_of, row_from, rule_at, string_at, target_at}
 use Rattle.record_codec.specs.Sizes.{Codes, HasCoding, IsChange, IsFile, IsFileHead, IsForm, IsNote, IsPin, IsProfileHead, IsPuk, IsRule, IsTarget}
 use Rattle.record_codec.specs.Spelling.{change, file, file_head, form, kind, kind_byte, life, life_byte, mode, mode_byte, note, operation, operation_byte, pin, profile_head, puk, rule, spelling, target}
+use Rattle.record_codec.specs.Gives.{Fails}
+use Rattle.record_codec.specs.declared.fault.RecordFault.{RecordFault}
+use Rattle.record_codec.specs.declared.fault.RecordFault.TheVariants as faults
+use Rattle.record_codec.proofs.AgainLemmas.{whole_again}
 use Rattle.record_codec.specs.declared.record.Record.{Record}
 use Rattle.record_codec.specs.declared.record.Record.TheVariants as records
 use Rattle.record_codec.proofs.TakesLemmas.{IsBytes, IsBytes-rest, Taken, Takes, bind_some, both_taken, byte_taken, list_taken, made_taken, number2_taken, number4_taken, number8_taken, one_taken, option_taken, path_taken, plain_taken, same_some, string_taken}
@@ -186,3 +190,26 @@ pub whole_takes : (bytes : List ℕ) (its : Record) → IsBytes bytes → record
 whole_takes bytes its is e =
     let t = record_takes bytes its [] is e in
     record { values = t.1; bytes_are = t.0.parts ∙ append-nil (spelling its) }
+
+none_some : {X : Type 0} (x : X) → Some x ≡ None → ⊥
+none_some x e = absurd cc
+
+module _ (bytes : List ℕ) (entry : Record) (codes : Codes bytes entry) where
+  is_read : record_at bytes ≡ Some (entry, [])
+  is_read = ap record_at codes.bytes_are ∙ whole_again entry codes.values
+
+  pub not_none : record_at bytes ≡ None → ⊥
+  not_none none = none_some (entry, []) (sym is_read ∙ none)
+
+  pub nothing_left : (its : Record) (rest : List ℕ) → record_at bytes ≡ Some (its, rest) → rest ≡ []
+  nothing_left its rest read = ap (λ (p : Record × List ℕ). p.1) (same_some (its, rest) (entry, []) (sym read ∙ is_read))
+
+-- where reading fails, no record has these bytes as its coding, unless memory ran out
+pub refused : (bytes : List ℕ) (fault : RecordFault) → Fails fault (record_at bytes) → IsErrOf {T = Record} (Err fault) faults.NotARecord
+    → (entry : Record) → Codes bytes entry → ⊥
+refused bytes faults.NotARecord fails same entry codes = not_none bytes entry codes fails
+refused bytes faults.NoMemory fails same entry codes = absurd cc
+
+-- bytes that are read to their end
+pub found : (bytes : List ℕ) (its : Record) (rest : List ℕ) → IsBytes bytes → record_at bytes ≡ Some (its, rest) → rest ≡ [] → Codes bytes its
+found bytes its rest is read none = whole_takes bytes its is (read ∙ ap (λ (r : List ℕ). Some (its, r)) none)

@@ -119,6 +119,9 @@ unfoldable pub form_at : Reader Form
 form_at bytes = both_at path_at (both_at (one_at kind_of) (both_at (one_at life_of) (both_at byte_at
     (both_at (string_at 16) (both_at (option_at rule_at) byte_at))))) bytes
 
+abbrev pub parts_of : FileHead → Form
+parts_of head = (head.path, (head.kind, (head.life, (head.sfi, (head.name, (head.rule, head.record_len))))))
+
 abbrev pub head_from : Form → ℕ → FileHead
 head_from form size = record {
   path = form.0;

@@ -1,5 +1,5 @@
 // The fields of records, read from their bytes: a value and the bytes behind it.
-ghost use Rattle.std.specs.Prelude.{◌≡◌, ◌<◌, ◌≤◌, ◌^◌, length};
+ghost use Rattle.std.specs.Prelude.{◌≡◌, ◌<◌, ◌≤◌, ◌^◌, length, IfOk};
 ghost use Rattle.std.specs.Int.{w16, w32, w64};
 ghost use Rattle.record_codec.specs.Gives.{Gives};
 ghost use Rattle.record_codec.specs.Reading.{byte_at, flag_of, items_at, kind_of, life_of, mode_of, number_at, one_at, operation_of, option_at, path_at, plain_at, rule_at, string_at};
@@ -20,7 +20,8 @@ pub fn byte_of(bytes: &[u8]) -> Result<(u8, &[u8]), RecordFault>
 }
 
 pub fn plain_of(count: usize, bytes: &[u8]) -> Result<(&[u8], &[u8]), RecordFault>
-    ensures { Gives (λ x. (x.0.now, x.1.now)) result (plain_at count bytes.now) }
+    ensures read { Gives (λ x. (x.0.now, x.1.now)) result (plain_at count bytes.now) }
+    ensures exact { IfOk result (λ x. length x.0.now ≡ count) }
 {
     if bytes.len() < count {
         return Err(RecordFault::NotARecord);
@@ -63,7 +64,8 @@ pub fn number8_of(bytes: &[u8]) -> Result<(u64, &[u8]), RecordFault>
 
 #[tactic(auto, unfolding(crate::specs::Reading::string_at))]
 pub fn string_of(most: u16, bytes: &[u8]) -> Result<(&[u8], &[u8]), RecordFault>
-    ensures { Gives (λ x. (x.0.now, x.1.now)) result (string_at most bytes.now) }
+    ensures read { Gives (λ x. (x.0.now, x.1.now)) result (string_at most bytes.now) }
+    ensures few { IfOk result (λ x. length x.0.now ≤ most) }
 {
     let (count, rest) = number2_of(bytes)?;
     if count > most {
