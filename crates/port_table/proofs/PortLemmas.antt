@@ -1,11 +1,11 @@
 -- A profile taken from its port.
-use Rattle.std.proofs.Common.{◌≡◌, ◌≢◌, ◌↔◌, ◌<◌, ◌+◌, suc, arith, set, get_or, ℕ, Bool, true, false, cond, nat_eq, List, length, map, Option, Some, None, refl, sym, ◌∙◌, ap, subst, eq-eqb, eqb-true}
+use Rattle.std.proofs.Common.{◌≡◌, ◌≢◌, ◌↔◌, ◌<◌, ◌+◌, suc, arith, set, get_or, ℕ, Bool, true, false, cond, nat_eq, List, length, Option, Some, None, refl, sym, ◌∙◌, ap, eq-eqb, eqb-true}
 use Rattle.std.specs.Prelude.{slice_get, option_map}
 use Rattle.std.proofs.lemmas.Bool.{false≢true}
 use Rattle.std.proofs.lemmas.List.{length-map}
 use Rattle.std.proofs.lemmas.Option.{slice_get-map}
 use Rattle.plain_lists.proofs.MappedLemmas.{get_or-mapped_to, mapped_to, mapped_to-next}
-use Rattle.port_table.specs.Ports.{HasProfiles, KeepsPortRule, StandsNowhere, StandsOn, freed, unbound}
+use Rattle.port_table.specs.Ports.{KeepsPortRule, StandsNowhere, StandsOn, freed, unbound}
 use Rattle.port_table.specs.declared.ports.Ports.{Ports}
 
 -- what a place has that is still there without a profile

@@ -1,7 +1,6 @@
 -- What was written of a record is read again.
-use Rattle.std.proofs.Common.{◌≡◌, ℕ, ◌<◌, ◌^◌, ◌++◌, List, [], ◌∷◌, length, Option, Some, None, Bool, true, false, refl, sym, ap, ◌∙◌, arith, append_assoc}
-use Rattle.std.specs.Prelude.{IfSome, ⊤}
-use Rattle.std.specs.Int.{w16, w32, w64}
+use Rattle.std.proofs.Common.{◌≡◌, ℕ, ◌++◌, List, [], Some, Bool, true, false, refl, sym, ap, ◌∙◌, arith, append_assoc}
+use Rattle.std.specs.Prelude.{⊤}
 use Rattle.std.proofs.lemmas.List.{append-nil}
 use Rattle.file_rows.specs.declared.change.Change.{Change}
 use Rattle.file_rows.specs.declared.change.Change.TheVariants.{WriteRange, WriteRecord, PinSet, FileAdd, FileGone, FileState, FileSize}
@@ -15,10 +14,10 @@ use Rattle.notify_list.specs.declared.note.Operation.{Operation}
 use Rattle.notify_list.specs.declared.note.Operation.TheVariants.{Install, Enable, Disable, Delete}
 use Rattle.port_table.specs.declared.port_mode.PortMode.{PortMode}
 use Rattle.port_table.specs.declared.port_mode.PortMode.TheVariants.{A1, A2, B}
-use Rattle.record_codec.specs.Fields.{◌&◌, byte, flag, flag_byte, list, number2, number4, number8, option, path, plain, string}
-use Rattle.record_codec.specs.Reading.{◌>>=◌, Form, Reader, both_at, byte_at, change_at, change_of, file_at, file_head_at, flag_of, form_at, head_from, kind_of, life_of, list_at, made_at, mode_of, note_at, number_at, one_at, operation_of, option_at, path_at, pin_at, plain_at, profile_head_at, puk_at, record_at, record_of, row_from, rule_at, string_at, target_at}
-use Rattle.record_codec.specs.Sizes.{Codes, HasCoding, IsByte, IsChange, IsFile, IsFileHead, IsForm, IsList, IsNote, IsNumber2, IsPath, IsPin, IsProfileHead, IsPuk, IsRule, IsTarget}
-use Rattle.record_codec.specs.Spelling.{change, file, file_head, form, kind, kind_byte, life, life_byte, mode, mode_byte, note, operation, operation_byte, pin, profile_head, puk, rule, spelling, target}
+use Rattle.record_codec.specs.Fields.{flag, flag_byte, number2, string}
+use Rattle.record_codec.specs.Reading.{◌>>=◌, Form, change_at, file_at, file_head_at, flag_of, form_at, head_from, kind_of, life_of, mode_of, note_at, one_at, operation_of, pin_at, profile_head_at, puk_at, record_at, rule_at, target_at}
+use Rattle.record_codec.specs.Sizes.{Codes, HasCoding, IsChange, IsFile, IsFileHead, IsForm, IsNote, IsPin, IsProfileHead, IsPuk, IsRule, IsTarget}
+use Rattle.record_codec.specs.Spelling.{change, file, file_head, form, kind_byte, life_byte, mode_byte, note, operation_byte, pin, profile_head, puk, rule, spelling, target}
 use Rattle.record_codec.specs.declared.record.Record.{Record}
 use Rattle.record_codec.specs.declared.record.Record.TheVariants as records
 use Rattle.record_codec.proofs.FieldLemmas.{Again, both_again, byte_again, list_again, made_again, number2_again, number4_again, number8_again, one_again, option_again, path_again, plain_again, string_again}

@@ -1,5 +1,5 @@
 -- What a record leaves alone.
-use Rattle.std.proofs.Common.{◌≡◌, ◌+◌, ℕ, Bool, true, false, cond, not, nat_eq, List, [], ◌∷◌, ◌++◌, length, map, filter, Option, Some, None, refl, sym, ◌∙◌, ap, arith, eqb-true, eq-eqb}
+use Rattle.std.proofs.Common.{◌≡◌, ℕ, Bool, true, false, cond, not, nat_eq, List, [], ◌∷◌, ◌++◌, length, map, filter, Option, Some, None, refl, sym, ◌∙◌, ap, arith, eqb-true}
 use Rattle.file_rows.specs.declared.content.Content.{Content}
 use Rattle.record_codec.specs.Apply.{apply}
 use Rattle.record_codec.specs.Content.{contents_with}

@@ -1,7 +1,6 @@
 -- What was read as a record is its coding.
-use Rattle.std.proofs.Common.{◌≡◌, ℕ, zero, suc, List, [], ◌∷◌, ◌++◌, length, Option, Some, None, Bool, true, false, refl, sym, ap, subst, ◌∙◌}
-use Rattle.std.specs.Prelude.{Err, IfSome, IsErrOf, ⊤}
-use Rattle.std.specs.Int.{w16, w32, w64}
+use Rattle.std.proofs.Common.{◌≡◌, ℕ, zero, suc, List, [], ◌∷◌, Some, None, Bool, true, false, refl, sym, ap, subst, ◌∙◌}
+use Rattle.std.specs.Prelude.{Err, IsErrOf, ⊤}
 use Rattle.std.proofs.lemmas.List.{append-nil}
 use Rattle.file_rows.specs.declared.change.Change.{Change}
 use Rattle.file_rows.specs.declared.change.Change.TheVariants.{WriteRange, WriteRecord, PinSet, FileAdd, FileGone, FileState, FileSize}
@@ -9,10 +8,10 @@ use Rattle.file_rows.specs.declared.head.Kind.{Kind}
 use Rattle.file_rows.specs.declared.head.Life.{Life}
 use Rattle.notify_list.specs.declared.note.Operation.{Operation}
 use Rattle.port_table.specs.declared.port_mode.PortMode.{PortMode}
-use Rattle.record_codec.specs.Fields.{◌&◌, byte, flag, flag_byte, number2}
-use Rattle.record_codec.specs.Reading.{◌>>=◌, Form, Reader, both_at, byte_at, change_at, change_of, file_at, file_head_at, flag_of, form_at, head_from, kind_of, life_of, list_at, made_at, mode_of, note_at, number_at, one_at, operation_of, option_at, path_at, pin_at, plain_at, profile_head_at, puk_at, record_at, record_of, row_from, rule_at, string_at, target_at}
+use Rattle.record_codec.specs.Fields.{flag, flag_byte}
+use Rattle.record_codec.specs.Reading.{Form, Reader, change_at, change_of, file_at, file_head_at, flag_of, form_at, head_from, kind_of, life_of, made_at, mode_of, note_at, one_at, operation_of, pin_at, profile_head_at, puk_at, record_at, record_of, row_from, rule_at, target_at}
 use Rattle.record_codec.specs.Sizes.{Codes, HasCoding, IsChange, IsFile, IsFileHead, IsForm, IsNote, IsPin, IsProfileHead, IsPuk, IsRule, IsTarget}
-use Rattle.record_codec.specs.Spelling.{change, file, file_head, form, kind, kind_byte, life, life_byte, mode, mode_byte, note, operation, operation_byte, pin, profile_head, puk, rule, spelling, target}
+use Rattle.record_codec.specs.Spelling.{change, file, file_head, form, kind_byte, life, life_byte, mode_byte, note, operation_byte, pin, profile_head, puk, rule, spelling, target}
 use Rattle.record_codec.specs.Gives.{Fails}
 use Rattle.record_codec.specs.declared.fault.RecordFault.{RecordFault}
 use Rattle.record_codec.specs.declared.fault.RecordFault.TheVariants as faults

@@ -1,5 +1,5 @@
 -- A profile on a port, and the one that stood there on none.
-use Rattle.std.specs.Prelude.{ℕ, ◌≡◌, List, Option, Some, None, option_and_then, slice_get}
+use Rattle.std.specs.Prelude.{ℕ, ◌≡◌, Option, Some, option_and_then, slice_get}
 use Rattle.notify_list.specs.declared.note.Operation.TheVariants.{Enable, Disable}
 use Rattle.port_table.specs.Ports.{StandsNowhere, bound}
 use Rattle.record_codec.specs.Heads.{IsHeld, head_of}

@@ -1,5 +1,5 @@
 -- What a record leaves alone.
-use Rattle.std.specs.Prelude.{ℕ, ◌≡◌, ◌≢◌, true, List, ⊤}
+use Rattle.std.specs.Prelude.{ℕ, ◌≡◌, true, ⊤}
 use Rattle.record_codec.specs.Gone.{is_among}
 use Rattle.record_codec.specs.declared.record.Record.{Record}
 use Rattle.record_codec.specs.declared.record.Record.TheVariants.{PutCard, PutProfile, Content, Bind, Unbind, Gone, Name, NoteGone}

@@ -1,4 +1,4 @@
-use Rattle.std.proofs.Common.{◌≡◌, ◌-◌, length}
+use Rattle.std.proofs.Common.{◌≡◌, ◌-◌}
 use Rattle.record_codec.specs.Reading.{items_at, file_at}
 use Rattle.record_codec.proofs.LoopLemmas.{with_front}
 use Rattle.record_codec.proofs.reading.files_of.Given as goal

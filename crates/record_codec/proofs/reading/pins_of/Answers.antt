@@ -1,5 +1,3 @@
-use Rattle.std.proofs.Common.{[], ◌∷◌, arith}
-use Rattle.std.proofs.lemmas.List.{length-append}
 use Rattle.std.proofs.lemmas.Result.{err_from_is_err_and}
 use Rattle.record_codec.specs.Reading.{items_at, pin_at}
 use Rattle.record_codec.proofs.LoopLemmas.{ends, goes_on, is_done}

@@ -1,4 +1,4 @@
-use Rattle.std.proofs.Common.{◌≡◌, ◌-◌, length}
+use Rattle.std.proofs.Common.{◌≡◌, ◌-◌}
 use Rattle.record_codec.specs.Reading.{items_at, pin_at}
 use Rattle.record_codec.proofs.LoopLemmas.{with_front}
 use Rattle.record_codec.proofs.reading.pins_of.Given as goal

@@ -1,4 +1,4 @@
-use Rattle.record_codec.specs.Fields.{◌&◌, byte, plain}
+use Rattle.record_codec.specs.Fields.{byte, plain}
 use Rattle.record_codec.specs.Spelling.{mode}
 use Rattle.record_codec.proofs.WindowLemmas.{then_four}
 use Rattle.record_codec.proofs.writing.put_put_card.Goals as goal
