@@ -3,5 +3,6 @@ pub mod FieldLemmas
 pub mod LocalLemmas
 pub mod LoopLemmas
 pub mod RecordTakes
+pub mod SizeLemmas
 pub mod TakesLemmas
 pub mod WindowLemmas

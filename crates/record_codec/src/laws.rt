@@ -3,7 +3,7 @@ ghost use Rattle.file_rows.specs.declared.change.Change.{Change};
 ghost use Rattle.record_codec.specs.Apply.{apply};
 ghost use Rattle.record_codec.specs.Fits.{Fits};
 ghost use Rattle.record_codec.specs.Reading.{record_at};
-ghost use Rattle.record_codec.specs.Sizes.{Codes};
+ghost use Rattle.record_codec.specs.Sizes.{Codes, HasSizes};
 ghost use Rattle.record_codec.specs.Heads.{content_of, head_of};
 ghost use Rattle.record_codec.specs.Local.{TouchesContent};
 ghost use Rattle.record_codec.specs.declared.durable.Durable.{Durable};
@@ -33,4 +33,9 @@ pub fn codings_are_unique()
         → one ≡ other }
     ensures coding { (one other : List ℕ) (entry : Record) → Codes one entry → Codes other entry
         → one ≡ other }
+{}
+
+/// A record that fits what a card holds has room in its coding, so that it can be put.
+pub fn fitting_records_have_sizes()
+    ensures { (durable : Durable) (entry : Record) → Fits durable entry → HasSizes entry }
 {}

@@ -16,7 +16,9 @@ mod writing;
 
 pub use durable::{Durable, Heads, ProfileList};
 pub use fault::RecordFault;
-pub use laws::{codings_are_unique, reading_is_of_codings, records_are_local};
+pub use laws::{
+    codings_are_unique, fitting_records_have_sizes, reading_is_of_codings, records_are_local,
+};
 pub use profile::{BoxedProfile, Label, NoteTarget, Profile, ProfileHead, Provider, Targets};
 pub use reading::read_record;
 pub use record::{Numbers, Record};
