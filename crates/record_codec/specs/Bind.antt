@@ -13,7 +13,8 @@ with_binding profile port displaced durable = record durable {
   heads = record durable.heads {
     ports = bound profile port durable.heads.ports;
     notes = noted_where Enable (head_of profile durable.heads.profiles)
-        (noted_where Disable (option_and_then (λ number. head_of number durable.heads.profiles) displaced)
+        (noted_where Disable (option_and_then
+        (λ number. head_of number durable.heads.profiles) displaced)
         durable.heads.notes);
   };
 }

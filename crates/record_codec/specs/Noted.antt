@@ -1,4 +1,5 @@
--- The notifications of what is done to a profile (GSMA SGP.22, NotificationConfigurationInformation).
+-- The notifications of what is done to a profile (GSMA SGP.22,
+-- NotificationConfigurationInformation).
 use Rattle.std.specs.Prelude.{ℕ, Bool, not, ◌==◌, List, [], ◌∷◌, Option, Some, None, filter, bit_and}
 use Rattle.notify_list.specs.Notes.{NoteList, with_note}
 use Rattle.notify_list.specs.declared.note.Operation.{Operation}

@@ -21,7 +21,8 @@ with_profile installation profile port durable = record {
     ports = bound_where profile.head.number port durable.heads.ports;
     next_number = durable.heads.next_number + (if installation then 1 else 0);
     profiles = durable.heads.profiles ++ profile.head ∷ [];
-    notes = if installation then noted Install profile.head durable.heads.notes else durable.heads.notes;
+    notes = if installation then noted Install profile.head durable.heads.notes
+        else durable.heads.notes;
   };
   contents = durable.contents ++ profile.content ∷ [];
 }

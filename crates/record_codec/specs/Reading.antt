@@ -57,7 +57,8 @@ string_at most bytes = number_at w16 bytes >>= λ n. where_few most n.0 (plain_a
 unfoldable pub items_at : {X : Type 0} → Reader X → ℕ → Reader (List X)
 items_at read zero bytes = Some ([], bytes)
 items_at read (suc n) bytes =
-    read bytes >>= λ first. items_at read n first.1 >>= λ others. Some (first.0 ∷ others.0, others.1)
+    read bytes >>= λ first. items_at read n first.1 >>= λ others. Some
+    (first.0 ∷ others.0, others.1)
 
 unfoldable pub list_at : {X : Type 0} → ℕ → Reader X → Reader (List X)
 list_at most read bytes = number_at w16 bytes >>= λ n. where_few most n.0 (items_at read n.0 n.1)
@@ -109,7 +110,8 @@ life_of (suc (suc zero)) = Some Terminated
 life_of (suc (suc (suc b))) = None
 
 unfoldable pub rule_at : Reader Rule
-rule_at bytes = made_at (λ x. record { file = x.0; row = x.1 }) (both_at (number_at w16) byte_at) bytes
+rule_at bytes = made_at (λ x. record { file = x.0; row = x.1 })
+    (both_at (number_at w16) byte_at) bytes
 
 -- what a file has beside its size
 abbrev pub Form : Type 0
@@ -120,7 +122,13 @@ form_at bytes = both_at path_at (both_at (one_at kind_of) (both_at (one_at life_
     (both_at (string_at 16) (both_at (option_at rule_at) byte_at))))) bytes
 
 abbrev pub parts_of : FileHead → Form
-parts_of head = (head.path, (head.kind, (head.life, (head.sfi, (head.name, (head.rule, head.record_len))))))
+parts_of head = (
+  head.path,
+  (
+    head.kind,
+    (head.life, (head.sfi, (head.name, (head.rule, head.record_len)))),
+  ),
+)
 
 abbrev pub head_from : Form → ℕ → FileHead
 head_from form size = record {
@@ -179,11 +187,18 @@ unfoldable pub change_at : Reader Change
 change_at bytes = byte_at bytes >>= λ b. change_of b.0 b.1
 
 unfoldable pub note_at : Reader Note
-note_at bytes = made_at (λ x. record { number = x.0; operation = x.1.0; iccid = x.1.1.0; address = x.1.1.1 })
-    (both_at (number_at w32) (both_at (one_at operation_of) (both_at (plain_at 10) (string_at 64)))) bytes
+note_at bytes = made_at (λ x. record {
+  number = x.0;
+  operation = x.1.0;
+  iccid = x.1.1.0;
+  address = x.1.1.1;
+})
+    (both_at (number_at w32) (both_at (one_at operation_of)
+    (both_at (plain_at 10) (string_at 64)))) bytes
 
 unfoldable pub target_at : Reader NoteTarget
-target_at bytes = made_at (λ x. record { operations = x.0; address = x.1 }) (both_at byte_at (string_at 64)) bytes
+target_at bytes = made_at (λ x. record { operations = x.0; address = x.1 })
+    (both_at byte_at (string_at 64)) bytes
 
 unfoldable pub profile_head_at : Reader ProfileHead
 profile_head_at bytes = made_at (λ x. record {
@@ -201,11 +216,15 @@ profile_head_at bytes = made_at (λ x. record {
 
 abbrev pub record_of : ℕ → Reader Record
 record_of zero bytes = None
-record_of (suc zero) bytes = made_at (λ x. records.PutCard x.0 x.1.0 x.1.1.0 x.1.1.1.0 x.1.1.1.1.0 x.1.1.1.1.1)
+record_of (suc zero) bytes = made_at
+    (λ x. records.PutCard x.0 x.1.0 x.1.1.0 x.1.1.1.0 x.1.1.1.1.0 x.1.1.1.1.1)
     (both_at (one_at mode_of) (both_at byte_at (both_at (plain_at 16) (both_at (number_at w32)
     (both_at (number_at w64) (list_at 65535 note_at)))))) bytes
 record_of (suc (suc zero)) bytes = made_at
-    (λ x. records.PutProfile x.0 (record { head = x.1.0; content = record { rows = x.1.1.1.0; pins = x.1.1.1.1 } }) x.1.1.0)
+    (λ x. records.PutProfile x.0 (record {
+      head = x.1.0;
+      content = record { rows = x.1.1.1.0; pins = x.1.1.1.1 };
+    }) x.1.1.0)
     (both_at (one_at flag_of) (both_at profile_head_at (both_at (option_at byte_at)
     (both_at (list_at 65535 file_at) (list_at 65535 pin_at))))) bytes
 record_of (suc (suc (suc zero))) bytes =

@@ -13,6 +13,7 @@ pub record Shows (at : ℕ) (bytes first : List ℕ) (place : Place) (out : List
   pub buffer : out ≡ shown at (length first) bytes ++ drop place.filled first
 
 -- these bytes go by too
-pub record Puts (text : List ℕ) (old : Place) (out : List ℕ) (new : Place) (after : List ℕ) : Type 0 where
+pub record Puts (text : List ℕ) (old : Place) (out : List ℕ) (new : Place)
+    (after : List ℕ) : Type 0 where
   pub more : (at : ℕ) (bytes first : List ℕ) → Shows at bytes first old out
       → Shows at (bytes ++ text) first new after

@@ -21,7 +21,8 @@ fn rest_from(bytes: &[u8], count: usize) -> &[u8]
 fn overwrite(bytes: &[u8], from: usize, out: &mut [u8]) -> usize
     requires { from ≤ length out.old }
     ensures count { result ≡ min (length out.old - from) (length bytes.now) }
-    ensures copied { out.new ≡ take from out.old ++ take result bytes.now ++ drop (from + result) out.old }
+    ensures copied { out.new ≡ take from out.old ++ take result bytes.now ++ drop
+        (from + result) out.old }
 {
     let count = bytes.len().min(out.len() - from);
     out[from..from + count].copy_from_slice(&bytes[..count]);

@@ -140,9 +140,12 @@ fn put_profile(
 )
     requires files { length profile.now.content.rows ≤ 65535 }
     requires pins { length profile.now.content.pins ≤ 65535 }
-    requires bodies { AllByRecursion (λ row. length row.body ≡ row.head.size) profile.now.content.rows }
+    requires bodies { AllByRecursion
+        (λ row. length row.body ≡ row.head.size) profile.now.content.rows }
     ensures puts { Puts (byte 2 & flag installation & profile_head profile.now.head & option byte port & list file profile.now.content.rows & list pin profile.now.content.pins) place.old out.old place.new out.new }
-    ensures sizes { IsProfileHead profile.now.head × IfSome port IsByte × IsList 65535 IsFile profile.now.content.rows × IsList 65535 IsPin profile.now.content.pins }
+    ensures sizes { IsProfileHead profile.now.head × IfSome port IsByte
+        × IsList 65535 IsFile profile.now.content.rows
+        × IsList 65535 IsPin profile.now.content.pins }
 {
     put_byte(2, place, out);
     put_flag(installation, place, out);
@@ -216,7 +219,8 @@ fn put_put_card(
 )
     requires { length notes.now ≤ 65535 }
     ensures puts { Puts (byte 1 & mode how & byte ports & plain eid.now & number4 next_number & number8 next_note & list note notes.now) place.old out.old place.new out.new }
-    ensures sizes { IsByte ports × IsPlain 16 eid.now × IsNumber4 next_number × IsNumber8 next_note × IsList 65535 IsNote notes.now }
+    ensures sizes { IsByte ports × IsPlain 16 eid.now × IsNumber4 next_number
+        × IsNumber8 next_note × IsList 65535 IsNote notes.now }
 {
     put_card(how, ports, eid, place, out);
     put_card_notes(next_number, next_note, notes, place, out);
