@@ -237,7 +237,8 @@ fn put_target_list(targets: &Targets, place: &mut Place, out: &mut [u8])
 }
 
 fn put_rules(head: &ProfileHead, place: &mut Place, out: &mut [u8])
-    ensures puts { Puts (byte head.now.class & byte head.now.policy & list target head.now.targets) place.old out.old place.new out.new }
+    ensures puts { Puts (byte head.now.class & byte head.now.policy & list target head.now.targets)
+        place.old out.old place.new out.new }
     ensures sizes { IsByte head.now.class × IsByte head.now.policy
         × IsList 8 IsTarget head.now.targets }
 {
@@ -247,7 +248,8 @@ fn put_rules(head: &ProfileHead, place: &mut Place, out: &mut [u8])
 }
 
 fn put_labels(head: &ProfileHead, place: &mut Place, out: &mut [u8])
-    ensures puts { Puts (string head.now.provider & string head.now.name & string head.now.nickname) place.old out.old place.new out.new }
+    ensures puts { Puts (string head.now.provider & string head.now.name & string head.now.nickname)
+        place.old out.old place.new out.new }
     ensures sizes { IsString 32 head.now.provider × IsString 64 head.now.name
         × IsString 64 head.now.nickname }
 {

@@ -9,7 +9,8 @@ use crate::window::{Place, put_byte, put_number2};
 use file_rows::{Change, FileHead, Life, Path, Piece, PinRow};
 
 fn put_write_range(at: &Path, offset: u16, bytes: &Piece, place: &mut Place, out: &mut [u8])
-    ensures puts { Puts (byte 0 & path at.now & number2 offset & string bytes.now) place.old out.old place.new out.new }
+    ensures puts { Puts (byte 0 & path at.now & number2 offset & string bytes.now)
+        place.old out.old place.new out.new }
     ensures sizes { IsPath at.now × IsNumber2 offset × IsString 255 bytes.now }
 {
     put_byte(0, place, out);
@@ -19,7 +20,8 @@ fn put_write_range(at: &Path, offset: u16, bytes: &Piece, place: &mut Place, out
 }
 
 fn put_write_record(at: &Path, number: u8, bytes: &Piece, place: &mut Place, out: &mut [u8])
-    ensures puts { Puts (byte 1 & path at.now & byte number & string bytes.now) place.old out.old place.new out.new }
+    ensures puts { Puts (byte 1 & path at.now & byte number & string bytes.now)
+        place.old out.old place.new out.new }
     ensures sizes { IsPath at.now × IsByte number × IsString 255 bytes.now }
 {
     put_byte(1, place, out);

@@ -106,7 +106,8 @@ fn put_number_option(found: Option<u16>, place: &mut Place, out: &mut [u8])
 }
 
 fn put_card(how: PortMode, ports: u8, eid: &[u8; 16], place: &mut Place, out: &mut [u8])
-    ensures puts { Puts (byte 1 & mode how & byte ports & plain eid.now) place.old out.old place.new out.new }
+    ensures puts { Puts (byte 1 & mode how & byte ports & plain eid.now)
+        place.old out.old place.new out.new }
     ensures sizes { IsByte ports × IsPlain 16 eid.now }
 {
     put_byte(1, place, out);
@@ -123,7 +124,8 @@ fn put_card_notes(
     out: &mut [u8],
 )
     requires { length notes.now ≤ 65535 }
-    ensures puts { Puts (number4 next_number & number8 next_note & list note notes.now) place.old out.old place.new out.new }
+    ensures puts { Puts (number4 next_number & number8 next_note & list note notes.now)
+        place.old out.old place.new out.new }
     ensures sizes { IsNumber4 next_number × IsNumber8 next_note × IsList 65535 IsNote notes.now }
 {
     put_number4(next_number, place, out);
@@ -142,7 +144,9 @@ fn put_profile(
     requires pins { length profile.now.content.pins ≤ 65535 }
     requires bodies { AllByRecursion
         (λ row. length row.body ≡ row.head.size) profile.now.content.rows }
-    ensures puts { Puts (byte 2 & flag installation & profile_head profile.now.head & option byte port & list file profile.now.content.rows & list pin profile.now.content.pins) place.old out.old place.new out.new }
+    ensures puts { Puts (byte 2 & flag installation & profile_head profile.now.head & option byte port
+        & list file profile.now.content.rows & list pin profile.now.content.pins)
+        place.old out.old place.new out.new }
     ensures sizes { IsProfileHead profile.now.head × IfSome port IsByte
         × IsList 65535 IsFile profile.now.content.rows
         × IsList 65535 IsPin profile.now.content.pins }
@@ -156,7 +160,8 @@ fn put_profile(
 }
 
 fn put_content(profile: u16, its: &Change, place: &mut Place, out: &mut [u8])
-    ensures puts { Puts (byte 3 & number2 profile & change its.now) place.old out.old place.new out.new }
+    ensures puts { Puts (byte 3 & number2 profile & change its.now)
+        place.old out.old place.new out.new }
     ensures sizes { IsNumber2 profile × IsChange its.now }
 {
     put_byte(3, place, out);
@@ -165,7 +170,8 @@ fn put_content(profile: u16, its: &Change, place: &mut Place, out: &mut [u8])
 }
 
 fn put_bind(profile: u16, port: u8, displaced: Option<u16>, place: &mut Place, out: &mut [u8])
-    ensures puts { Puts (byte 4 & number2 profile & byte port & option number2 displaced) place.old out.old place.new out.new }
+    ensures puts { Puts (byte 4 & number2 profile & byte port & option number2 displaced)
+        place.old out.old place.new out.new }
     ensures sizes { IsNumber2 profile × IsByte port × IfSome displaced IsNumber2 }
 {
     put_byte(4, place, out);
@@ -191,7 +197,8 @@ fn put_gone(profiles: &Numbers, place: &mut Place, out: &mut [u8])
 }
 
 fn put_name(profile: u16, nickname: &Label, place: &mut Place, out: &mut [u8])
-    ensures puts { Puts (byte 7 & number2 profile & string nickname.now) place.old out.old place.new out.new }
+    ensures puts { Puts (byte 7 & number2 profile & string nickname.now)
+        place.old out.old place.new out.new }
     ensures sizes { IsNumber2 profile × IsString 64 nickname.now }
 {
     put_byte(7, place, out);
@@ -218,7 +225,9 @@ fn put_put_card(
     out: &mut [u8],
 )
     requires { length notes.now ≤ 65535 }
-    ensures puts { Puts (byte 1 & mode how & byte ports & plain eid.now & number4 next_number & number8 next_note & list note notes.now) place.old out.old place.new out.new }
+    ensures puts { Puts (byte 1 & mode how & byte ports & plain eid.now & number4 next_number
+        & number8 next_note & list note notes.now)
+        place.old out.old place.new out.new }
     ensures sizes { IsByte ports × IsPlain 16 eid.now × IsNumber4 next_number
         × IsNumber8 next_note × IsList 65535 IsNote notes.now }
 {
