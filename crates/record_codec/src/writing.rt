@@ -144,7 +144,8 @@ fn put_profile(
     requires pins { length profile.now.content.pins ≤ 65535 }
     requires bodies { AllByRecursion
         (λ row. length row.body ≡ row.head.size) profile.now.content.rows }
-    ensures puts { Puts (byte 2 & flag installation & profile_head profile.now.head & option byte port
+    ensures puts { Puts (byte 2 & flag installation & profile_head profile.now.head
+        & option byte port
         & list file profile.now.content.rows & list pin profile.now.content.pins)
         place.old out.old place.new out.new }
     ensures sizes { IsProfileHead profile.now.head × IfSome port IsByte
