@@ -1,1 +1,2 @@
 pub mod PortMode
+pub mod Ports

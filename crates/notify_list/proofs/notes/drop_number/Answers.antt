@@ -1,0 +1,6 @@
+use Rattle.std.proofs.Common.{rules, not, nat_eq}
+use Rattle.std.proofs.lemmas.Fn.{filter_same}
+use Rattle.notify_list.proofs.notes.drop_number.Goals as goal
+
+pub returns-clause-items : goal.returns-clause-items
+returns-clause-items c = filter_same _ (λ note. not (nat_eq note.number c.args.number)) _ (λ x b f' k. search rules) _ _ c.retain.ensures.filtered

@@ -1,0 +1,5 @@
+use Rattle.record_codec.proofs.WindowLemmas.{then}
+use Rattle.record_codec.proofs.put.put_target.Goals as goal
+
+pub returns-clause-puts : goal.returns-clause-puts
+returns-clause-puts c = then c.put_byte.ensures.puts c.put_text.ensures.puts

@@ -1,0 +1,5 @@
+use Rattle.record_codec.proofs.WindowLemmas.{then}
+use Rattle.record_codec.proofs.put_change.put_file_state.Goals as goal
+
+pub returns-clause-puts : goal.returns-clause-puts
+returns-clause-puts c = then c.put_byte.ensures.puts (then c.put_path.ensures.puts c.put_life.ensures)

@@ -1,0 +1,5 @@
+use Rattle.record_codec.proofs.WindowLemmas.{then}
+use Rattle.record_codec.proofs.writing.put_card.Goals as goal
+
+pub returns-clause-puts : goal.returns-clause-puts
+returns-clause-puts c = then c.put_byte.ensures.puts (then c.put_mode.ensures (then c.put_byte-2.ensures.puts c.put.ensures))

@@ -1,0 +1,5 @@
+use Rattle.record_codec.proofs.WindowLemmas.{then}
+use Rattle.record_codec.proofs.writing.put_profile.Goals as goal
+
+pub returns-clause-puts : goal.returns-clause-puts
+returns-clause-puts c = then c.put_byte.ensures.puts (then c.put_flag.ensures (then c.put_profile_head.ensures.puts (then c.put_port_option.ensures.puts (then c.put_file_list.ensures.puts c.put_pin_list.ensures.puts))))

@@ -1,0 +1,14 @@
+use Rattle.std.proofs.Common.{refl}
+use Rattle.record_codec.specs.Spelling.{spelling}
+use Rattle.record_codec.proofs.WindowLemmas.{shows_whole, whole_count, whole_filled}
+use Rattle.record_codec.proofs.writing.put_record.Goals as goal
+
+pub returns-clause-count : goal.returns-clause-count
+returns-clause-count c =
+    whole_count c.args.at (spelling c.args.entry.now) c.args.out.now c.put_entry.new.place c.put_entry.new.out
+    (shows_whole c.args.at (spelling c.args.entry.now) c.args.out.now _ c.put_entry.new.place c.put_entry.new.out refl refl c.put_entry.ensures.puts)
+
+pub returns-clause-filled : goal.returns-clause-filled
+returns-clause-filled c =
+    whole_filled c.args.at (spelling c.args.entry.now) c.args.out.now c.put_entry.new.place c.put_entry.new.out
+    (shows_whole c.args.at (spelling c.args.entry.now) c.args.out.now _ c.put_entry.new.place c.put_entry.new.out refl refl c.put_entry.ensures.puts)

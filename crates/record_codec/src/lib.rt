@@ -1,0 +1,29 @@
+//! What a card holds, and the records of its changes: their effect and their coding.
+#![tactic(auto)]
+
+mod durable;
+mod fault;
+mod laws;
+mod profile;
+mod put;
+mod put_change;
+mod read_fields;
+mod read_files;
+mod reading;
+mod record;
+mod window;
+mod writing;
+
+pub use durable::{Durable, Heads, ProfileList};
+pub use fault::RecordFault;
+pub use laws::{
+    codings_are_unique, fitting_records_have_sizes, reading_is_of_codings, records_are_local,
+};
+pub use profile::{BoxedProfile, Label, NoteTarget, Profile, ProfileHead, Provider, Targets};
+pub use reading::read_record;
+pub use record::{Numbers, Record};
+pub use std::alloc::AllocError as NoMemory;
+pub use writing::{put_record, record_len};
+
+#[cfg(test)]
+mod tests;
