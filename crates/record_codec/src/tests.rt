@@ -69,20 +69,21 @@ fn ports_names_and_notifications_are_coded(rt: HostRuntime) {
 #[test]
 fn a_coding_is_read_and_other_bytes_are_not(rt: HostRuntime) -> Result<(), Fail> {
     let coding = [4, 0x04, 0x4D, 2, 1, 0x04, 0x4C];
-    match read_record(rt.alloc(), &coding) {
-        Ok(
-            Record::Bind {
-                profile,
-                port,
-                displaced,
-            },
-        ) => {
-            assert_eq!(rt; profile, 1101);
-            assert_eq!(rt; port, 2);
-            assert_eq!(rt; displaced, Some(1100));
-        }
-        _ => assert!(rt; false),
-    }
+    let read = read_record(rt.alloc(), &coding);
+    let Ok(
+        Record::Bind {
+            profile,
+            port,
+            displaced,
+        },
+    ) = &read
+    else {
+        assert!(rt; false);
+        return Ok(());
+    };
+    assert_eq!(rt; *profile, 1101);
+    assert_eq!(rt; *port, 2);
+    assert_eq!(rt; *displaced, Some(1100));
     for len in 0..coding.len() {
         assert!(rt;
             matches!(
@@ -102,28 +103,29 @@ fn a_coding_is_read_and_other_bytes_are_not(rt: HostRuntime) -> Result<(), Fail>
         1, 2, 3, 0x89, 0x04, 0, 0, 0, 0, 0, 0, 0, 0, 0, 0, 0, 0, 0, 0x01, 0, 0, 0x04, 0x4C, 0, 0,
         0, 0, 0, 0, 0, 9, 0, 1, 0, 0, 0, 8, 3, 0x98, 0x10, 0, 0, 0, 0, 0, 0, 0, 0xF1, 0, 1, 0x61,
     ];
-    match read_record(rt.alloc(), &card) {
-        Ok(
-            Record::PutCard {
-                mode,
-                ports,
-                next_number,
-                next_note,
-                notes,
-                ..
-            },
-        ) => {
-            assert_eq!(rt; mode, PortMode::B);
-            assert_eq!(rt; ports, 3);
-            assert_eq!(rt; next_number, 1100);
-            assert_eq!(rt; next_note, 9);
-            for note in notes.as_slice() {
-                assert_eq!(rt; note.number, 8);
-                assert_eq!(rt; note.operation, Operation::Delete);
-                assert_eq!(rt; note.address.as_slice(), b"a".as_slice());
-            }
-        }
-        _ => assert!(rt; false),
+    let read = read_record(rt.alloc(), &card);
+    let Ok(
+        Record::PutCard {
+            mode,
+            ports,
+            next_number,
+            next_note,
+            notes,
+            ..
+        },
+    ) = &read
+    else {
+        assert!(rt; false);
+        return Ok(());
+    };
+    assert_eq!(rt; *mode, PortMode::B);
+    assert_eq!(rt; *ports, 3);
+    assert_eq!(rt; *next_number, 1100);
+    assert_eq!(rt; *next_note, 9);
+    for note in notes.as_slice() {
+        assert_eq!(rt; note.number, 8);
+        assert_eq!(rt; note.operation, Operation::Delete);
+        assert_eq!(rt; note.address.as_slice(), b"a".as_slice());
     }
     Ok(())
 }
