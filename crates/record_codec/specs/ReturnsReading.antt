@@ -7,6 +7,6 @@ abbrev pub Fails : {Y : Type 0} → RecordFault → Option Y → Type 0
 Fails NotARecord read = read ≡ None
 Fails NoMemory read = ⊤
 
-abbrev pub ReadsAs : {X Y : Type 0} → (X → Y) → Result X RecordFault → Option Y → Type 0
-ReadsAs view (Ok x) read = read ≡ Some (view x)
-ReadsAs view (Err fault) read = Fails fault read
+abbrev pub ReturnsReading : {X Y : Type 0} → (X → Y) → Result X RecordFault → Option Y → Type 0
+ReturnsReading view (Ok x) read = read ≡ Some (view x)
+ReturnsReading view (Err fault) read = Fails fault read
