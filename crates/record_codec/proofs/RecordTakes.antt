@@ -12,7 +12,7 @@ use Rattle.record_codec.specs.Fields.{flag, flag_byte}
 use Rattle.record_codec.specs.Reading.{Form, Reader, change_at, change_of, file_read, file_head_at, flag_of, form_at, head_from, kind_of, life_read, made_at, mode_of, note_at, one_at, operation_of, pin_read, profile_head_at, puk_at, record_read, record_of, row_from, rule_read, target_at}
 use Rattle.record_codec.specs.Sizes.{Codes, HasCoding, IsChange, HasFileSizes, IsFileHead, IsForm, IsNote, HasPinSizes, IsProfileHead, IsPuk, IsRule, IsTarget}
 use Rattle.record_codec.specs.Spelling.{change, file, file_head, form, kind_byte, life, coded_life, mode_byte, note, operation_byte, pin, profile_head, puk, rule, spelling, target}
-use Rattle.record_codec.specs.ReturnsReading.{Fails}
+use Rattle.record_codec.specs.Returns.{Fails}
 use Rattle.record_codec.specs.declared.fault.RecordFault.{RecordFault}
 use Rattle.record_codec.specs.declared.fault.RecordFault.TheVariants as faults
 use Rattle.record_codec.proofs.AgainLemmas.{whole_again}

@@ -3,7 +3,7 @@ pub mod Bind
 pub mod Content
 pub mod Fields
 pub mod FitsCard
-pub mod ReturnsReading
+pub mod Returns
 pub mod Gone
 pub mod Heads
 pub mod IsDurable

@@ -1,7 +1,7 @@
 // The fields of records, read from their bytes: a value and the bytes behind it.
 ghost use Rattle.std.specs.Prelude.{◌≡◌, ◌<◌, ◌≤◌, ◌^◌, length, IfOk};
 ghost use Rattle.std.specs.Int.{w16, w32, w64};
-ghost use Rattle.record_codec.specs.ReturnsReading.{ReturnsReading};
+ghost use Rattle.record_codec.specs.Returns.{Returns};
 ghost use Rattle.record_codec.specs.Reading.{byte_at, flag_of, items_at, kind_of, life_read, mode_of, number_at, one_at, operation_of, option_at, path_at, plain_at, rule_read, string_at};
 
 use crate::RecordFault;
@@ -11,7 +11,7 @@ use plain_lists::ShortList;
 use port_table::PortMode;
 
 pub fn byte_of(bytes: &[u8]) -> Result<(u8, &[u8]), RecordFault>
-    ensures { ReturnsReading (λ x. (x.0, x.1.now)) result (byte_at bytes.now) }
+    ensures { Returns (λ x. (x.0, x.1.now)) result (byte_at bytes.now) }
 {
     match bytes {
         [byte, rest @ ..] => Ok((*byte, rest)),
@@ -20,7 +20,7 @@ pub fn byte_of(bytes: &[u8]) -> Result<(u8, &[u8]), RecordFault>
 }
 
 pub fn plain_of(count: usize, bytes: &[u8]) -> Result<(&[u8], &[u8]), RecordFault>
-    ensures read { ReturnsReading (λ x. (x.0.now, x.1.now)) result (plain_at count bytes.now) }
+    ensures read { Returns (λ x. (x.0.now, x.1.now)) result (plain_at count bytes.now) }
     ensures exact { IfOk result (λ x. length x.0.now ≡ count) }
 {
     if bytes.len() < count {
@@ -30,7 +30,7 @@ pub fn plain_of(count: usize, bytes: &[u8]) -> Result<(&[u8], &[u8]), RecordFaul
 }
 
 pub fn number2_of(bytes: &[u8]) -> Result<(u16, &[u8]), RecordFault>
-    ensures { ReturnsReading (λ x. (x.0, x.1.now)) result (number_at w16 bytes.now) }
+    ensures { Returns (λ x. (x.0, x.1.now)) result (number_at w16 bytes.now) }
 {
     if bytes.len() < 2 {
         return Err(RecordFault::NotARecord);
@@ -40,7 +40,7 @@ pub fn number2_of(bytes: &[u8]) -> Result<(u16, &[u8]), RecordFault>
 }
 
 pub fn number4_of(bytes: &[u8]) -> Result<(u32, &[u8]), RecordFault>
-    ensures { ReturnsReading (λ x. (x.0, x.1.now)) result (number_at w32 bytes.now) }
+    ensures { Returns (λ x. (x.0, x.1.now)) result (number_at w32 bytes.now) }
 {
     if bytes.len() < 4 {
         return Err(RecordFault::NotARecord);
@@ -50,7 +50,7 @@ pub fn number4_of(bytes: &[u8]) -> Result<(u32, &[u8]), RecordFault>
 }
 
 pub fn number8_of(bytes: &[u8]) -> Result<(u64, &[u8]), RecordFault>
-    ensures { ReturnsReading (λ x. (x.0, x.1.now)) result (number_at w64 bytes.now) }
+    ensures { Returns (λ x. (x.0, x.1.now)) result (number_at w64 bytes.now) }
 {
     if bytes.len() < 8 {
         return Err(RecordFault::NotARecord);
@@ -64,7 +64,7 @@ pub fn number8_of(bytes: &[u8]) -> Result<(u64, &[u8]), RecordFault>
 
 #[tactic(auto, unfolding(crate::specs::Reading::string_at))]
 pub fn string_of(most: u16, bytes: &[u8]) -> Result<(&[u8], &[u8]), RecordFault>
-    ensures read { ReturnsReading (λ x. (x.0.now, x.1.now)) result (string_at most bytes.now) }
+    ensures read { Returns (λ x. (x.0.now, x.1.now)) result (string_at most bytes.now) }
     ensures few { IfOk result (λ x. length x.0.now ≤ most) }
 {
     let (count, rest) = number2_of(bytes)?;
@@ -77,7 +77,7 @@ pub fn string_of(most: u16, bytes: &[u8]) -> Result<(&[u8], &[u8]), RecordFault>
 #[tactic(auto, unfolding(crate::specs::Reading::string_at))]
 pub fn text_of<const CAP: usize>(bytes: &[u8]) -> Result<(ShortList<u8, CAP>, &[u8]), RecordFault>
     requires { CAP < 2 ^ 16 }
-    ensures { ReturnsReading (λ x. (x.0, x.1.now)) result (string_at CAP bytes.now) }
+    ensures { Returns (λ x. (x.0, x.1.now)) result (string_at CAP bytes.now) }
 {
     let (count, rest) = number2_of(bytes)?;
     if usize::from(count) > CAP {
@@ -88,7 +88,7 @@ pub fn text_of<const CAP: usize>(bytes: &[u8]) -> Result<(ShortList<u8, CAP>, &[
 }
 
 pub fn flag_of(bytes: &[u8]) -> Result<(bool, &[u8]), RecordFault>
-    ensures { ReturnsReading (λ x. (x.0, x.1.now)) result (one_at flag_of bytes.now) }
+    ensures { Returns (λ x. (x.0, x.1.now)) result (one_at flag_of bytes.now) }
 {
     match bytes {
         [0, rest @ ..] => Ok((false, rest)),

@@ -1,7 +1,7 @@
 // Paths, files, PINs and changes, read from their bytes.
 ghost use Rattle.std.specs.Prelude.{◌≡◌, ◌≤◌, length};
 ghost use Rattle.std.specs.Int.{w16};
-ghost use Rattle.record_codec.specs.ReturnsReading.{ReturnsReading};
+ghost use Rattle.record_codec.specs.Returns.{Returns};
 ghost use Rattle.record_codec.specs.Reading.{byte_at, change_at, change_of, file_read, file_head_at, head_from, form_at, items_at, kind_of, life_read, number_at, one_at, option_at, parts_of, path_at, pin_read, plain_at, puk_at, row_from, rule_read};
 
 use crate::RecordFault;
@@ -15,7 +15,7 @@ pub fn numbers_of<const CAP: usize>(
     bytes: &[u8],
 ) -> Result<(ShortList<u16, CAP>, &[u8]), RecordFault>
     requires { count ≤ CAP }
-    ensures { ReturnsReading (λ x. (x.0, x.1.now)) result (items_at (number_at w16) count bytes.now) }
+    ensures { Returns (λ x. (x.0, x.1.now)) result (items_at (number_at w16) count bytes.now) }
 {
     let mut numbers = ShortList::new();
     let mut rest = bytes;
@@ -29,7 +29,7 @@ pub fn numbers_of<const CAP: usize>(
 
 #[tactic(auto, unfolding(crate::specs::Reading::path_at))]
 pub fn path_of(bytes: &[u8]) -> Result<(Path, &[u8]), RecordFault>
-    ensures { ReturnsReading (λ x. (x.0, x.1.now)) result (path_at bytes.now) }
+    ensures { Returns (λ x. (x.0, x.1.now)) result (path_at bytes.now) }
 {
     let (count, rest) = byte_of(bytes)?;
     if count > 4 {
@@ -39,7 +39,7 @@ pub fn path_of(bytes: &[u8]) -> Result<(Path, &[u8]), RecordFault>
 }
 
 fn kind_of(bytes: &[u8]) -> Result<(Kind, &[u8]), RecordFault>
-    ensures { ReturnsReading (λ x. (x.0, x.1.now)) result (one_at kind_of bytes.now) }
+    ensures { Returns (λ x. (x.0, x.1.now)) result (one_at kind_of bytes.now) }
 {
     let (kind, rest) = match bytes {
         [0, rest @ ..] => (Kind::Master, rest),
@@ -54,7 +54,7 @@ fn kind_of(bytes: &[u8]) -> Result<(Kind, &[u8]), RecordFault>
 }
 
 fn life_read(bytes: &[u8]) -> Result<(Life, &[u8]), RecordFault>
-    ensures { ReturnsReading (λ x. (x.0, x.1.now)) result (one_at life_read bytes.now) }
+    ensures { Returns (λ x. (x.0, x.1.now)) result (one_at life_read bytes.now) }
 {
     match bytes {
         [0, rest @ ..] => Ok((Life::Active, rest)),
@@ -66,7 +66,7 @@ fn life_read(bytes: &[u8]) -> Result<(Life, &[u8]), RecordFault>
 
 #[tactic(auto, unfolding(crate::specs::Reading::rule_read))]
 fn rule_of(bytes: &[u8]) -> Result<(Rule, &[u8]), RecordFault>
-    ensures { ReturnsReading (λ x. (x.0, x.1.now)) result (rule_read bytes.now) }
+    ensures { Returns (λ x. (x.0, x.1.now)) result (rule_read bytes.now) }
 {
     let (file, rest) = number2_of(bytes)?;
     let (row, rest) = byte_of(rest)?;
@@ -75,7 +75,7 @@ fn rule_of(bytes: &[u8]) -> Result<(Rule, &[u8]), RecordFault>
 
 #[tactic(auto, unfolding(crate::specs::Reading::option_at))]
 fn rule_option_of(bytes: &[u8]) -> Result<(Option<Rule>, &[u8]), RecordFault>
-    ensures { ReturnsReading (λ x. (x.0, x.1.now)) result (option_at rule_read bytes.now) }
+    ensures { Returns (λ x. (x.0, x.1.now)) result (option_at rule_read bytes.now) }
 {
     match bytes {
         [0, rest @ ..] => Ok((None, rest)),
@@ -89,7 +89,7 @@ fn rule_option_of(bytes: &[u8]) -> Result<(Option<Rule>, &[u8]), RecordFault>
 
 #[tactic(auto, unfolding(crate::specs::Reading::puk_at))]
 fn puk_of(bytes: &[u8]) -> Result<(Puk, &[u8]), RecordFault>
-    ensures { ReturnsReading (λ x. (x.0, x.1.now)) result (puk_at bytes.now) }
+    ensures { Returns (λ x. (x.0, x.1.now)) result (puk_at bytes.now) }
 {
     let (value, rest) = eight_of(bytes)?;
     let (max, rest) = byte_of(rest)?;
@@ -98,7 +98,7 @@ fn puk_of(bytes: &[u8]) -> Result<(Puk, &[u8]), RecordFault>
 }
 
 fn eight_of(bytes: &[u8]) -> Result<([u8; 8], &[u8]), RecordFault>
-    ensures { ReturnsReading (λ x. (x.0, x.1.now)) result (plain_at 8 bytes.now) }
+    ensures { Returns (λ x. (x.0, x.1.now)) result (plain_at 8 bytes.now) }
 {
     let (its, rest) = plain_of(8, bytes)?;
     let mut value = [0; 8];
@@ -108,7 +108,7 @@ fn eight_of(bytes: &[u8]) -> Result<([u8; 8], &[u8]), RecordFault>
 
 #[tactic(auto, unfolding(crate::specs::Reading::option_at))]
 fn puk_option_of(bytes: &[u8]) -> Result<(Option<Puk>, &[u8]), RecordFault>
-    ensures { ReturnsReading (λ x. (x.0, x.1.now)) result (option_at puk_at bytes.now) }
+    ensures { Returns (λ x. (x.0, x.1.now)) result (option_at puk_at bytes.now) }
 {
     match bytes {
         [0, rest @ ..] => Ok((None, rest)),
@@ -122,7 +122,7 @@ fn puk_option_of(bytes: &[u8]) -> Result<(Option<Puk>, &[u8]), RecordFault>
 
 #[tactic(auto, unfolding(crate::specs::Reading::form_at))]
 fn form_of(bytes: &[u8]) -> Result<(FileHead, &[u8]), RecordFault>
-    ensures { ReturnsReading (λ x. (parts_of x.0, x.1.now)) result (form_at bytes.now) }
+    ensures { Returns (λ x. (parts_of x.0, x.1.now)) result (form_at bytes.now) }
 {
     let (path, rest) = path_of(bytes)?;
     let (kind, rest) = kind_of(rest)?;
@@ -154,7 +154,7 @@ fn with_size(mut head: FileHead, size: u16) -> FileHead
 
 #[tactic(auto, unfolding(crate::specs::Reading::file_head_at))]
 fn file_head_of(bytes: &[u8]) -> Result<(FileHead, &[u8]), RecordFault>
-    ensures { ReturnsReading (λ x. (x.0, x.1.now)) result (file_head_at bytes.now) }
+    ensures { Returns (λ x. (x.0, x.1.now)) result (file_head_at bytes.now) }
 {
     let (head, rest) = form_of(bytes)?;
     let (size, rest) = number2_of(rest)?;
@@ -174,7 +174,7 @@ fn with_body(head: FileHead, body: Vec<u8>, size: u16) -> FileRow
 
 #[tactic(auto, unfolding(crate::specs::Reading::file_read))]
 pub fn file_of(alloc: Global, bytes: &[u8]) -> Result<(FileRow, &[u8]), RecordFault>
-    ensures { ReturnsReading (λ x. (x.0, x.1.now)) result (file_read bytes.now) }
+    ensures { Returns (λ x. (x.0, x.1.now)) result (file_read bytes.now) }
 {
     let (head, rest) = form_of(bytes)?;
     let (text, rest) = string_of(u16::MAX, rest)?;
@@ -185,7 +185,7 @@ pub fn file_of(alloc: Global, bytes: &[u8]) -> Result<(FileRow, &[u8]), RecordFa
 
 #[tactic(auto, unfolding(crate::specs::Reading::pin_read))]
 pub fn pin_of(bytes: &[u8]) -> Result<(PinRow, &[u8]), RecordFault>
-    ensures { ReturnsReading (λ x. (x.0, x.1.now)) result (pin_read bytes.now) }
+    ensures { Returns (λ x. (x.0, x.1.now)) result (pin_read bytes.now) }
 {
     let (number, rest) = byte_of(bytes)?;
     let (home, rest) = path_of(rest)?;
@@ -209,7 +209,7 @@ pub fn pin_of(bytes: &[u8]) -> Result<(PinRow, &[u8]), RecordFault>
 }
 
 fn write_range_of(bytes: &[u8]) -> Result<(Change, &[u8]), RecordFault>
-    ensures { ReturnsReading (λ x. (x.0, x.1.now)) result (change_of 0 bytes.now) }
+    ensures { Returns (λ x. (x.0, x.1.now)) result (change_of 0 bytes.now) }
 {
     let (path, rest) = path_of(bytes)?;
     let (offset, rest) = number2_of(rest)?;
@@ -223,7 +223,7 @@ fn write_range_of(bytes: &[u8]) -> Result<(Change, &[u8]), RecordFault>
 }
 
 fn write_record_of(bytes: &[u8]) -> Result<(Change, &[u8]), RecordFault>
-    ensures { ReturnsReading (λ x. (x.0, x.1.now)) result (change_of 1 bytes.now) }
+    ensures { Returns (λ x. (x.0, x.1.now)) result (change_of 1 bytes.now) }
 {
     let (path, rest) = path_of(bytes)?;
     let (number, rest) = byte_of(rest)?;
@@ -237,28 +237,28 @@ fn write_record_of(bytes: &[u8]) -> Result<(Change, &[u8]), RecordFault>
 }
 
 fn pin_set_of(bytes: &[u8]) -> Result<(Change, &[u8]), RecordFault>
-    ensures { ReturnsReading (λ x. (x.0, x.1.now)) result (change_of 2 bytes.now) }
+    ensures { Returns (λ x. (x.0, x.1.now)) result (change_of 2 bytes.now) }
 {
     let (row, rest) = pin_of(bytes)?;
     Ok((Change::PinSet { row }, rest))
 }
 
 fn file_add_of(bytes: &[u8]) -> Result<(Change, &[u8]), RecordFault>
-    ensures { ReturnsReading (λ x. (x.0, x.1.now)) result (change_of 3 bytes.now) }
+    ensures { Returns (λ x. (x.0, x.1.now)) result (change_of 3 bytes.now) }
 {
     let (head, rest) = file_head_of(bytes)?;
     Ok((Change::FileAdd { head }, rest))
 }
 
 fn file_gone_of(bytes: &[u8]) -> Result<(Change, &[u8]), RecordFault>
-    ensures { ReturnsReading (λ x. (x.0, x.1.now)) result (change_of 4 bytes.now) }
+    ensures { Returns (λ x. (x.0, x.1.now)) result (change_of 4 bytes.now) }
 {
     let (path, rest) = path_of(bytes)?;
     Ok((Change::FileGone { path }, rest))
 }
 
 fn file_state_of(bytes: &[u8]) -> Result<(Change, &[u8]), RecordFault>
-    ensures { ReturnsReading (λ x. (x.0, x.1.now)) result (change_of 5 bytes.now) }
+    ensures { Returns (λ x. (x.0, x.1.now)) result (change_of 5 bytes.now) }
 {
     let (path, rest) = path_of(bytes)?;
     let (life, rest) = life_read(rest)?;
@@ -266,7 +266,7 @@ fn file_state_of(bytes: &[u8]) -> Result<(Change, &[u8]), RecordFault>
 }
 
 fn file_size_of(bytes: &[u8]) -> Result<(Change, &[u8]), RecordFault>
-    ensures { ReturnsReading (λ x. (x.0, x.1.now)) result (change_of 6 bytes.now) }
+    ensures { Returns (λ x. (x.0, x.1.now)) result (change_of 6 bytes.now) }
 {
     let (path, rest) = path_of(bytes)?;
     let (size, rest) = number2_of(rest)?;
@@ -275,7 +275,7 @@ fn file_size_of(bytes: &[u8]) -> Result<(Change, &[u8]), RecordFault>
 
 #[tactic(auto, unfolding(crate::specs::Reading::change_at))]
 pub fn change_of(bytes: &[u8]) -> Result<(Change, &[u8]), RecordFault>
-    ensures { ReturnsReading (λ x. (x.0, x.1.now)) result (change_at bytes.now) }
+    ensures { Returns (λ x. (x.0, x.1.now)) result (change_at bytes.now) }
 {
     match bytes {
         [0, rest @ ..] => write_range_of(rest),

@@ -1,7 +1,7 @@
 // Records, read from their bytes.
 ghost use Rattle.std.specs.Prelude.{◌≡◌, ◌≤◌, [], Some, IfOk, IsErrOf};
 ghost use Rattle.std.specs.Int.{w16};
-ghost use Rattle.record_codec.specs.ReturnsReading.{ReturnsReading};
+ghost use Rattle.record_codec.specs.Returns.{Returns};
 ghost use Rattle.record_codec.specs.Reading.{byte_at, file_read, items_at, list_at, mode_of, note_at, number_at, one_at, operation_of, option_at, pin_read, plain_at, profile_head_at, record_read, record_of, target_at};
 ghost use Rattle.record_codec.specs.Sizes.{Codes};
 ghost use Rattle.record_codec.specs.declared.record.Record.{Record};
@@ -18,7 +18,7 @@ use port_table::PortMode;
 use std::alloc::Global;
 
 fn mode_of(bytes: &[u8]) -> Result<(PortMode, &[u8]), RecordFault>
-    ensures { ReturnsReading (λ x. (x.0, x.1.now)) result (one_at mode_of bytes.now) }
+    ensures { Returns (λ x. (x.0, x.1.now)) result (one_at mode_of bytes.now) }
 {
     match bytes {
         [0, rest @ ..] => Ok((PortMode::A1, rest)),
@@ -29,7 +29,7 @@ fn mode_of(bytes: &[u8]) -> Result<(PortMode, &[u8]), RecordFault>
 }
 
 fn operation_of(bytes: &[u8]) -> Result<(Operation, &[u8]), RecordFault>
-    ensures { ReturnsReading (λ x. (x.0, x.1.now)) result (one_at operation_of bytes.now) }
+    ensures { Returns (λ x. (x.0, x.1.now)) result (one_at operation_of bytes.now) }
 {
     match bytes {
         [0, rest @ ..] => Ok((Operation::Install, rest)),
@@ -41,7 +41,7 @@ fn operation_of(bytes: &[u8]) -> Result<(Operation, &[u8]), RecordFault>
 }
 
 fn iccid_of(bytes: &[u8]) -> Result<(Iccid, &[u8]), RecordFault>
-    ensures { ReturnsReading (λ x. (x.0, x.1.now)) result (plain_at 10 bytes.now) }
+    ensures { Returns (λ x. (x.0, x.1.now)) result (plain_at 10 bytes.now) }
 {
     let (its, rest) = plain_of(10, bytes)?;
     let mut iccid = [0; 10];
@@ -50,7 +50,7 @@ fn iccid_of(bytes: &[u8]) -> Result<(Iccid, &[u8]), RecordFault>
 }
 
 fn eid_of(bytes: &[u8]) -> Result<([u8; 16], &[u8]), RecordFault>
-    ensures { ReturnsReading (λ x. (x.0, x.1.now)) result (plain_at 16 bytes.now) }
+    ensures { Returns (λ x. (x.0, x.1.now)) result (plain_at 16 bytes.now) }
 {
     let (its, rest) = plain_of(16, bytes)?;
     let mut eid = [0; 16];
@@ -60,7 +60,7 @@ fn eid_of(bytes: &[u8]) -> Result<([u8; 16], &[u8]), RecordFault>
 
 #[tactic(auto, unfolding(crate::specs::Reading::option_at))]
 fn port_option_of(bytes: &[u8]) -> Result<(Option<u8>, &[u8]), RecordFault>
-    ensures { ReturnsReading (λ x. (x.0, x.1.now)) result (option_at byte_at bytes.now) }
+    ensures { Returns (λ x. (x.0, x.1.now)) result (option_at byte_at bytes.now) }
 {
     match bytes {
         [0, rest @ ..] => Ok((None, rest)),
@@ -74,7 +74,7 @@ fn port_option_of(bytes: &[u8]) -> Result<(Option<u8>, &[u8]), RecordFault>
 
 #[tactic(auto, unfolding(crate::specs::Reading::option_at))]
 fn number_option_of(bytes: &[u8]) -> Result<(Option<u16>, &[u8]), RecordFault>
-    ensures { ReturnsReading (λ x. (x.0, x.1.now)) result (option_at (number_at w16) bytes.now) }
+    ensures { Returns (λ x. (x.0, x.1.now)) result (option_at (number_at w16) bytes.now) }
 {
     match bytes {
         [0, rest @ ..] => Ok((None, rest)),
@@ -88,7 +88,7 @@ fn number_option_of(bytes: &[u8]) -> Result<(Option<u16>, &[u8]), RecordFault>
 
 #[tactic(auto, unfolding(crate::specs::Reading::note_at))]
 fn note_of(bytes: &[u8]) -> Result<(Note, &[u8]), RecordFault>
-    ensures { ReturnsReading (λ x. (x.0, x.1.now)) result (note_at bytes.now) }
+    ensures { Returns (λ x. (x.0, x.1.now)) result (note_at bytes.now) }
 {
     let (number, rest) = number4_of(bytes)?;
     let (operation, rest) = operation_of(rest)?;
@@ -105,7 +105,7 @@ fn note_of(bytes: &[u8]) -> Result<(Note, &[u8]), RecordFault>
 
 #[tactic(auto, unfolding(crate::specs::Reading::target_at))]
 fn target_of(bytes: &[u8]) -> Result<(NoteTarget, &[u8]), RecordFault>
-    ensures { ReturnsReading (λ x. (x.0, x.1.now)) result (target_at bytes.now) }
+    ensures { Returns (λ x. (x.0, x.1.now)) result (target_at bytes.now) }
 {
     let (operations, rest) = byte_of(bytes)?;
     let (address, rest) = text_of(rest)?;
@@ -118,7 +118,7 @@ fn target_of(bytes: &[u8]) -> Result<(NoteTarget, &[u8]), RecordFault>
 
 fn targets_of(count: u16, bytes: &[u8]) -> Result<(Targets, &[u8]), RecordFault>
     requires { count ≤ 8 }
-    ensures { ReturnsReading (λ x. (x.0, x.1.now)) result (items_at target_at count bytes.now) }
+    ensures { Returns (λ x. (x.0, x.1.now)) result (items_at target_at count bytes.now) }
 {
     let mut targets = Targets::new();
     let mut rest = bytes;
@@ -131,7 +131,7 @@ fn targets_of(count: u16, bytes: &[u8]) -> Result<(Targets, &[u8]), RecordFault>
 }
 
 fn notes_of(alloc: Global, count: u16, bytes: &[u8]) -> Result<(Vec<Note>, &[u8]), RecordFault>
-    ensures { ReturnsReading (λ x. (x.0.items, x.1.now)) result (items_at note_at count bytes.now) }
+    ensures { Returns (λ x. (x.0.items, x.1.now)) result (items_at note_at count bytes.now) }
 {
     let mut notes = Vec::new(alloc);
     let mut rest = bytes;
@@ -144,7 +144,7 @@ fn notes_of(alloc: Global, count: u16, bytes: &[u8]) -> Result<(Vec<Note>, &[u8]
 }
 
 fn files_of(alloc: Global, count: u16, bytes: &[u8]) -> Result<(Vec<FileRow>, &[u8]), RecordFault>
-    ensures { ReturnsReading (λ x. (x.0.items, x.1.now)) result (items_at file_read count bytes.now) }
+    ensures { Returns (λ x. (x.0.items, x.1.now)) result (items_at file_read count bytes.now) }
 {
     let mut rows = Vec::new(alloc);
     let mut rest = bytes;
@@ -157,7 +157,7 @@ fn files_of(alloc: Global, count: u16, bytes: &[u8]) -> Result<(Vec<FileRow>, &[
 }
 
 fn pins_of(alloc: Global, count: u16, bytes: &[u8]) -> Result<(Vec<PinRow>, &[u8]), RecordFault>
-    ensures { ReturnsReading (λ x. (x.0.items, x.1.now)) result (items_at pin_read count bytes.now) }
+    ensures { Returns (λ x. (x.0.items, x.1.now)) result (items_at pin_read count bytes.now) }
 {
     let mut rows = Vec::new(alloc);
     let mut rest = bytes;
@@ -171,7 +171,7 @@ fn pins_of(alloc: Global, count: u16, bytes: &[u8]) -> Result<(Vec<PinRow>, &[u8
 
 #[tactic(auto, unfolding(crate::specs::Reading::list_at))]
 fn target_list_of(bytes: &[u8]) -> Result<(Targets, &[u8]), RecordFault>
-    ensures { ReturnsReading (λ x. (x.0, x.1.now)) result (list_at 8 target_at bytes.now) }
+    ensures { Returns (λ x. (x.0, x.1.now)) result (list_at 8 target_at bytes.now) }
 {
     let (count, rest) = number2_of(bytes)?;
     if count > 8 {
@@ -182,7 +182,7 @@ fn target_list_of(bytes: &[u8]) -> Result<(Targets, &[u8]), RecordFault>
 
 #[tactic(auto, unfolding(crate::specs::Reading::list_at))]
 fn number_list_of(bytes: &[u8]) -> Result<(Numbers, &[u8]), RecordFault>
-    ensures { ReturnsReading (λ x. (x.0, x.1.now)) result (list_at 16 (number_at w16) bytes.now) }
+    ensures { Returns (λ x. (x.0, x.1.now)) result (list_at 16 (number_at w16) bytes.now) }
 {
     let (count, rest) = number2_of(bytes)?;
     if count > 16 {
@@ -193,7 +193,7 @@ fn number_list_of(bytes: &[u8]) -> Result<(Numbers, &[u8]), RecordFault>
 
 #[tactic(auto, unfolding(crate::specs::Reading::list_at))]
 fn note_list_of(alloc: Global, bytes: &[u8]) -> Result<(LongList<Note>, &[u8]), RecordFault>
-    ensures { ReturnsReading (λ x. (x.0, x.1.now)) result (list_at 65535 note_at bytes.now) }
+    ensures { Returns (λ x. (x.0, x.1.now)) result (list_at 65535 note_at bytes.now) }
 {
     let (count, rest) = number2_of(bytes)?;
     let (items, rest) = notes_of(alloc, count, rest)?;
@@ -202,7 +202,7 @@ fn note_list_of(alloc: Global, bytes: &[u8]) -> Result<(LongList<Note>, &[u8]), 
 
 #[tactic(auto, unfolding(crate::specs::Reading::list_at))]
 fn file_list_of(alloc: Global, bytes: &[u8]) -> Result<(LongList<FileRow>, &[u8]), RecordFault>
-    ensures { ReturnsReading (λ x. (x.0, x.1.now)) result (list_at 65535 file_read bytes.now) }
+    ensures { Returns (λ x. (x.0, x.1.now)) result (list_at 65535 file_read bytes.now) }
 {
     let (count, rest) = number2_of(bytes)?;
     let (items, rest) = files_of(alloc, count, rest)?;
@@ -211,7 +211,7 @@ fn file_list_of(alloc: Global, bytes: &[u8]) -> Result<(LongList<FileRow>, &[u8]
 
 #[tactic(auto, unfolding(crate::specs::Reading::list_at))]
 fn pin_list_of(alloc: Global, bytes: &[u8]) -> Result<(LongList<PinRow>, &[u8]), RecordFault>
-    ensures { ReturnsReading (λ x. (x.0, x.1.now)) result (list_at 65535 pin_read bytes.now) }
+    ensures { Returns (λ x. (x.0, x.1.now)) result (list_at 65535 pin_read bytes.now) }
 {
     let (count, rest) = number2_of(bytes)?;
     let (items, rest) = pins_of(alloc, count, rest)?;
@@ -220,7 +220,7 @@ fn pin_list_of(alloc: Global, bytes: &[u8]) -> Result<(LongList<PinRow>, &[u8]),
 
 #[tactic(auto, unfolding(crate::specs::Reading::profile_head_at))]
 fn profile_head_of(bytes: &[u8]) -> Result<(ProfileHead, &[u8]), RecordFault>
-    ensures { ReturnsReading (λ x. (x.0, x.1.now)) result (profile_head_at bytes.now) }
+    ensures { Returns (λ x. (x.0, x.1.now)) result (profile_head_at bytes.now) }
 {
     let (number, rest) = number2_of(bytes)?;
     let (iccid, rest) = iccid_of(rest)?;
@@ -244,7 +244,7 @@ fn profile_head_of(bytes: &[u8]) -> Result<(ProfileHead, &[u8]), RecordFault>
 }
 
 fn put_card_of(alloc: Global, bytes: &[u8]) -> Result<(Record, &[u8]), RecordFault>
-    ensures { ReturnsReading (λ x. (x.0, x.1.now)) result (record_of 1 bytes.now) }
+    ensures { Returns (λ x. (x.0, x.1.now)) result (record_of 1 bytes.now) }
 {
     let (mode, rest) = mode_of(bytes)?;
     let (ports, rest) = byte_of(rest)?;
@@ -264,7 +264,7 @@ fn put_card_of(alloc: Global, bytes: &[u8]) -> Result<(Record, &[u8]), RecordFau
 }
 
 fn put_profile_of(alloc: Global, bytes: &[u8]) -> Result<(Record, &[u8]), RecordFault>
-    ensures { ReturnsReading (λ x. (x.0, x.1.now)) result (record_of 2 bytes.now) }
+    ensures { Returns (λ x. (x.0, x.1.now)) result (record_of 2 bytes.now) }
 {
     let (installation, rest) = flag_of(bytes)?;
     let (head, rest) = profile_head_of(rest)?;
@@ -282,7 +282,7 @@ fn put_profile_of(alloc: Global, bytes: &[u8]) -> Result<(Record, &[u8]), Record
 }
 
 fn content_of(bytes: &[u8]) -> Result<(Record, &[u8]), RecordFault>
-    ensures { ReturnsReading (λ x. (x.0, x.1.now)) result (record_of 3 bytes.now) }
+    ensures { Returns (λ x. (x.0, x.1.now)) result (record_of 3 bytes.now) }
 {
     let (profile, rest) = number2_of(bytes)?;
     let (change, rest) = change_of(rest)?;
@@ -290,7 +290,7 @@ fn content_of(bytes: &[u8]) -> Result<(Record, &[u8]), RecordFault>
 }
 
 fn bind_of(bytes: &[u8]) -> Result<(Record, &[u8]), RecordFault>
-    ensures { ReturnsReading (λ x. (x.0, x.1.now)) result (record_of 4 bytes.now) }
+    ensures { Returns (λ x. (x.0, x.1.now)) result (record_of 4 bytes.now) }
 {
     let (profile, rest) = number2_of(bytes)?;
     let (port, rest) = byte_of(rest)?;
@@ -304,21 +304,21 @@ fn bind_of(bytes: &[u8]) -> Result<(Record, &[u8]), RecordFault>
 }
 
 fn unbind_of(bytes: &[u8]) -> Result<(Record, &[u8]), RecordFault>
-    ensures { ReturnsReading (λ x. (x.0, x.1.now)) result (record_of 5 bytes.now) }
+    ensures { Returns (λ x. (x.0, x.1.now)) result (record_of 5 bytes.now) }
 {
     let (profile, rest) = number2_of(bytes)?;
     Ok((Record::Unbind { profile }, rest))
 }
 
 fn gone_of(bytes: &[u8]) -> Result<(Record, &[u8]), RecordFault>
-    ensures { ReturnsReading (λ x. (x.0, x.1.now)) result (record_of 6 bytes.now) }
+    ensures { Returns (λ x. (x.0, x.1.now)) result (record_of 6 bytes.now) }
 {
     let (profiles, rest) = number_list_of(bytes)?;
     Ok((Record::Gone { profiles }, rest))
 }
 
 fn name_of(bytes: &[u8]) -> Result<(Record, &[u8]), RecordFault>
-    ensures { ReturnsReading (λ x. (x.0, x.1.now)) result (record_of 7 bytes.now) }
+    ensures { Returns (λ x. (x.0, x.1.now)) result (record_of 7 bytes.now) }
 {
     let (profile, rest) = number2_of(bytes)?;
     let (nickname, rest) = text_of(rest)?;
@@ -326,7 +326,7 @@ fn name_of(bytes: &[u8]) -> Result<(Record, &[u8]), RecordFault>
 }
 
 fn note_gone_of(bytes: &[u8]) -> Result<(Record, &[u8]), RecordFault>
-    ensures { ReturnsReading (λ x. (x.0, x.1.now)) result (record_of 8 bytes.now) }
+    ensures { Returns (λ x. (x.0, x.1.now)) result (record_of 8 bytes.now) }
 {
     let (number, rest) = number4_of(bytes)?;
     Ok((Record::NoteGone { number }, rest))
@@ -334,7 +334,7 @@ fn note_gone_of(bytes: &[u8]) -> Result<(Record, &[u8]), RecordFault>
 
 #[tactic(auto, unfolding(crate::specs::Reading::record_read))]
 fn entry_of(alloc: Global, bytes: &[u8]) -> Result<(Record, &[u8]), RecordFault>
-    ensures { ReturnsReading (λ x. (x.0, x.1.now)) result (record_read bytes.now) }
+    ensures { Returns (λ x. (x.0, x.1.now)) result (record_read bytes.now) }
 {
     match bytes {
         [1, rest @ ..] => put_card_of(alloc, rest),

@@ -7,6 +7,6 @@ abbrev pub Fails : {Y : Type 0} → RecordFault → Option Y → Type 0
 Fails NotARecord read = read ≡ None
 Fails NoMemory read = ⊤
 
-abbrev pub ReturnsReading : {X Y : Type 0} → (X → Y) → Result X RecordFault → Option Y → Type 0
-ReturnsReading view (Ok x) read = read ≡ Some (view x)
-ReturnsReading view (Err fault) read = Fails fault read
+abbrev pub Returns : {X Y : Type 0} → (X → Y) → Result X RecordFault → Option Y → Type 0
+Returns view (Ok x) read = read ≡ Some (view x)
+Returns view (Err fault) read = Fails fault read
