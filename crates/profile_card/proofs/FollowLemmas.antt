@@ -11,9 +11,11 @@ use Rattle.uicc_select.proofs.SelectionLemmas.{change-select_row, change-status_
 use Rattle.uicc_select.proofs.SuitsLemmas.{AreRows-valid, Suits-select_row, Suits-status_row}
 use Rattle.uicc_select.specs.Select.{select_row}
 use Rattle.uicc_select.specs.Status.{status_row}
+use Rattle.profile_card.proofs.PinCommandLemmas.{MayFollow-pin_row}
 use Rattle.profile_card.specs.Card.{Card, IsSound, MayFollow, content_after, isdr_here}
 use Rattle.profile_card.specs.Commands.{command_row, decision, unknown_row}
 use Rattle.profile_card.specs.ReadBinary.{read_binary_row}
+use Rattle.profile_card.specs.declared.pin_commands.PinInstruction.TheVariants.{Change as ChangePin, Disable as DisablePin, Enable as EnablePin, Unblock as UnblockPin, Verify as VerifyPin}
 
 module _ (card : Card) (sound : IsSound card) where
   -- what changes no content may follow where its session suits the card
@@ -35,7 +37,7 @@ module _ (card : Card) (sound : IsSound card) where
       MayFollow-unchanged _ (change-status_row card.content.rows card.content.pins card.session c)
       (Suits-status_row card.content.rows (AreRows-valid card.content sound.content) card.session sound.session card.content.pins c)
 
-  MayFollow-read_binary_row : (c : Apdu) → MayFollow card (read_binary_row card.content.rows card.session c).done
+  MayFollow-read_binary_row : (c : Apdu) → MayFollow card (read_binary_row card.content card.session c).done
   MayFollow-read_binary_row c = record { change = tt; session = sound.session }
 
   MayFollow-unknown_row : (c : Apdu) → MayFollow card (unknown_row card.session c).done
@@ -51,7 +53,12 @@ module _ (card : Card) (sound : IsSound card) where
   MayFollow-command_row c =
       MayFollow-cond (c.ins == 0xA4) _ _ (MayFollow-select_row c)
       (MayFollow-cond (c.ins == 0xF2) _ _ (MayFollow-status_row c)
-      (MayFollow-cond (c.ins == 0xB0) _ _ (MayFollow-read_binary_row c) (MayFollow-unknown_row c)))
+      (MayFollow-cond (c.ins == 0xB0) _ _ (MayFollow-read_binary_row c)
+      (MayFollow-cond (c.ins == 0x20) _ _ (MayFollow-pin_row card sound VerifyPin c)
+      (MayFollow-cond (c.ins == 0x24) _ _ (MayFollow-pin_row card sound ChangePin c)
+      (MayFollow-cond (c.ins == 0x26) _ _ (MayFollow-pin_row card sound DisablePin c)
+      (MayFollow-cond (c.ins == 0x28) _ _ (MayFollow-pin_row card sound EnablePin c)
+      (MayFollow-cond (c.ins == 0x2C) _ _ (MayFollow-pin_row card sound UnblockPin c) (MayFollow-unknown_row c))))))))
 
   MayFollow-refused_or : (refusal : Option Sw) (done : CommandOutcome) → MayFollow card done → MayFollow card (refused_or refusal card.session done)
   MayFollow-refused_or None done may = may

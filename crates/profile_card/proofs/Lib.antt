@@ -1,5 +1,7 @@
 pub mod FollowLemmas
+pub mod GuardLemmas
 pub mod OwnLemmas
+pub mod PinCommandLemmas
 pub mod PinLemmas
 pub mod RunLemmas
 pub mod SampleLemmas

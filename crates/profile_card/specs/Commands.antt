@@ -11,7 +11,9 @@ use Rattle.uicc_channels.specs.declared.session.Session.{Session}
 use Rattle.uicc_select.specs.Select.{select_row}
 use Rattle.uicc_select.specs.Status.{status_row}
 use Rattle.profile_card.specs.Card.{Card, isdr_here}
+use Rattle.profile_card.specs.PinCommands.{pin_row}
 use Rattle.profile_card.specs.ReadBinary.{read_binary_row}
+use Rattle.profile_card.specs.declared.pin_commands.PinInstruction.TheVariants.{Change, Disable, Enable, Unblock, Verify}
 
 -- an instruction that the card doesn't know
 abbrev pub unknown_row : Session → Apdu → CommandRow
@@ -39,7 +41,12 @@ command_row card c =
     let pins = card.content.pins in
     if c.ins == 0xA4 then select_row rows pins session (isdr_here card) c
     else if c.ins == 0xF2 then not_at_isdr session c (status_row rows pins session c)
-    else if c.ins == 0xB0 then not_at_isdr session c (read_binary_row rows session c)
+    else if c.ins == 0xB0 then not_at_isdr session c (read_binary_row card.content session c)
+    else if c.ins == 0x20 then not_at_isdr session c (pin_row Verify pins session c)
+    else if c.ins == 0x24 then not_at_isdr session c (pin_row Change pins session c)
+    else if c.ins == 0x26 then not_at_isdr session c (pin_row Disable pins session c)
+    else if c.ins == 0x28 then not_at_isdr session c (pin_row Enable pins session c)
+    else if c.ins == 0x2C then not_at_isdr session c (pin_row Unblock pins session c)
     else unknown_row session c
 
 -- what a command comes to at a card

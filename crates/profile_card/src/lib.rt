@@ -3,7 +3,9 @@
 #![tactic(auto)]
 
 mod card1;
+mod guard;
 mod laws;
+mod pin_commands;
 mod pins;
 mod place;
 mod read_binary;
