@@ -28,10 +28,10 @@ file_at-itself [] row differ there = absurd (omega (arith, there.1))
 file_at-itself (first ∷ rows) row differ there =
     ⊎_elim
     (λ same. subst (λ (r : FileRow). file_at r.head.path (first ∷ rows) ≡ Some r) same
-        (ap (λ (b : Bool). cond b (Some first) (file_at first.head.path rows)) (same_path-refl first.head.path)))
+    (ap (λ (b : Bool). cond b (Some first) (file_at first.head.path rows)) (same_path-refl first.head.path)))
     (λ later. ap (λ (b : Bool). cond b (Some first) (file_at row.head.path rows))
-        (same_path-other first.head.path row.head.path (each_head (λ head. first.head.path ≢ head.path) rows row differ.0 later))
-        ∙ file_at-itself rows row differ.1 later)
+    (same_path-other first.head.path row.head.path (each_head (λ head. first.head.path ≢ head.path) rows row differ.0 later))
+    ∙ file_at-itself rows row differ.1 later)
     (contains_cases first rows row there)
 
 contains_map : {X Y : Type 0} (f : X → Y) (xs : List X) (x : X) → Contains xs x → Contains (map f xs) (f x)
