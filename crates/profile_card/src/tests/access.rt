@@ -1,5 +1,7 @@
 // Access rules and PINs: the worked examples on the sample card, and a card of three levels with
 // access rules and PINs of its own directories.
+ghost use Rattle.std.specs.Prelude.{◌≤◌, length};
+
 use super::*;
 
 // A command of the sample card, and its answer.
