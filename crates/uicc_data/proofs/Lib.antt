@@ -1,0 +1,3 @@
+pub mod ReferenceLemmas
+pub mod RowLemmas
+pub mod SuitsLemmas

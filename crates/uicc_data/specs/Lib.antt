@@ -1,0 +1,5 @@
+pub mod Access
+pub mod Binary
+pub mod CarriesOut
+pub mod FileReference
+pub mod FileUse
