@@ -1,5 +1,5 @@
 -- READ BINARY and UPDATE BINARY (ETSI TS 102 221).
-use Rattle.std.specs.Prelude.{ℕ, ◌+◌, ◌-◌, ◌*◌, Bool, ◌==◌, ◌&&◌, not, nat_lt, nat_le, if◌then◌else◌, List, length, take, drop, Option, Some, None, unwrap_or, is_some}
+use Rattle.std.specs.Prelude.{ℕ, ◌+◌, ◌-◌, ◌*◌, Bool, ◌==◌, nat_lt, nat_le, if◌then◌else◌, List, length, take, drop, Option, Some, None, unwrap_or}
 use Rattle.apdu_codec.specs.Answer.{status_alone}
 use Rattle.apdu_codec.specs.Class.{is_within}
 use Rattle.apdu_codec.specs.Command.{Apdu}
@@ -12,11 +12,10 @@ use Rattle.file_rows.specs.declared.mode.Mode.{Mode}
 use Rattle.file_rows.specs.declared.mode.Mode.TheVariants.{Bit}
 use Rattle.file_rows.specs.declared.row.FileRow.{FileRow}
 use Rattle.uicc_channels.specs.CommandRow.{CommandRow}
-use Rattle.uicc_channels.specs.Needs.{needs_of}
 use Rattle.uicc_channels.specs.Session.{open_channel}
 use Rattle.uicc_channels.specs.declared.session.Session.{Session}
 use Rattle.uicc_data.specs.FileReference.{pointer_at, using}
-use Rattle.uicc_data.specs.FileUse.{FileUse, on_named, where_named}
+use Rattle.uicc_data.specs.FileUse.{FileUse, needs_of_reading, needs_of_writing, on_named, where_named}
 use Rattle.uicc_data.specs.declared.binary.BinaryPlace.{BinaryPlace}
 use Rattle.uicc_data.specs.declared.reference.FileReference.TheVariants.{CurrentEf, Sfi}
 
@@ -75,19 +74,18 @@ writing session c place row =
       };
     }
 
--- READ BINARY: without a body and with Le
+-- READ BINARY
 abbrev pub read_binary_row : List FileRow → (List ℕ → Mode → Bool) → Session → Apdu → CommandRow
 read_binary_row rows allowed session c =
-    let lengths = (length c.body == 0) && is_some c.le in
-    let needs = record (needs_of session c) { lengths = lengths } in
+    let needs = needs_of_reading session c in
     where_named needs session
     (λ place. on_named rows allowed session c needs place.file (reading session c place))
     (binary_place c.p1 c.p2)
 
--- UPDATE BINARY: with a body
+-- UPDATE BINARY
 abbrev pub update_binary_row : List FileRow → (List ℕ → Mode → Bool) → Session → Apdu → CommandRow
 update_binary_row rows allowed session c =
-    let needs = record (needs_of session c) { lengths = not (length c.body == 0) } in
+    let needs = needs_of_writing session c in
     where_named needs session
     (λ place. on_named rows allowed session c needs place.file (writing session c place))
     (binary_place c.p1 c.p2)

@@ -1,4 +1,4 @@
-use Rattle.std.specs.Prelude.{ℕ, Bool, false, List, Option, Some, None}
+use Rattle.std.specs.Prelude.{ℕ, Bool, false, not, ◌==◌, ◌&&◌, List, length, Option, Some, None, is_some}
 use Rattle.apdu_codec.specs.Answer.{status_alone}
 use Rattle.apdu_codec.specs.Command.{Apdu}
 use Rattle.apdu_codec.specs.declared.status.Sw.{Sw}
@@ -8,7 +8,7 @@ use Rattle.file_rows.specs.declared.row.FileRow.{FileRow}
 use Rattle.uicc_channels.specs.CommandOutcome.{CommandOutcome, answering}
 use Rattle.uicc_channels.specs.CommandRow.{CommandRow}
 use Rattle.uicc_channels.specs.Life.{life_refusal}
-use Rattle.uicc_channels.specs.Needs.{Needs}
+use Rattle.uicc_channels.specs.Needs.{Needs, needs_of}
 use Rattle.uicc_channels.specs.Session.{open_channel}
 use Rattle.uicc_channels.specs.declared.session.Session.{Session}
 use Rattle.uicc_data.specs.FileReference.{file_named, not_there}
@@ -23,6 +23,15 @@ pub record FileUse : Type 0 where
   -- what the command alone asks
   pub own : Option Sw
   pub done : CommandOutcome
+
+-- what a command needs that reads: no body, and Le
+abbrev pub needs_of_reading : Session → Apdu → Needs
+needs_of_reading session c =
+    record (needs_of session c) { lengths = (length c.body == 0) && is_some c.le }
+
+-- what a command needs that writes or looks for bytes: a body
+abbrev pub needs_of_writing : Session → Apdu → Needs
+needs_of_writing session c = record (needs_of session c) { lengths = not (length c.body == 0) }
 
 -- a command that names no file that it could work on
 abbrev pub with_no_file : Needs → Session → CommandRow

@@ -4,9 +4,11 @@
 #![tactic(auto)]
 
 mod binary;
+mod laws;
 mod reference;
 
 pub use binary::{BinaryPlace, read_binary, update_binary};
+pub use laws::cards_carry_out_data_commands;
 pub use reference::FileReference;
 
 #[cfg(test)]

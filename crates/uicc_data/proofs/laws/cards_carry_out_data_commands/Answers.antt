@@ -1,0 +1,8 @@
+use Rattle.uicc_data.proofs.BinaryLemmas.{CanCarryOut-read_binary, CanCarryOut-update_binary}
+use Rattle.uicc_data.proofs.laws.cards_carry_out_data_commands.Goals as goal
+
+pub returns-clause-read_binary : goal.returns-clause-read_binary
+returns-clause-read_binary c content allowed session command valid suits = CanCarryOut-read_binary content valid session suits allowed command
+
+pub returns-clause-update_binary : goal.returns-clause-update_binary
+returns-clause-update_binary c content allowed session command valid suits = CanCarryOut-update_binary content valid session suits allowed command
