@@ -20,7 +20,7 @@ rest_none : (one rest : Option Sw) → option_or one rest ≡ None → rest ≡ 
 rest_none None rest e = e
 rest_none (Some sw) rest e = absurd (cc)
 
-is_met : (met : Bool) (sw : Sw) → refused_unless met sw ≡ None → met ≡ true
+pub is_met : (met : Bool) (sw : Sw) → refused_unless met sw ≡ None → met ≡ true
 is_met true sw e = refl
 is_met false sw e = absurd (cc)
 

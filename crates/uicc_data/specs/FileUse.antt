@@ -1,15 +1,16 @@
-use Rattle.std.specs.Prelude.{ℕ, Bool, false, not, ◌==◌, ◌&&◌, List, length, Option, Some, None, is_some}
+use Rattle.std.specs.Prelude.{ℕ, ◌≡◌, Bool, false, not, ◌==◌, ◌&&◌, List, length, Option, Some, None, is_some, Result, Ok, Err}
 use Rattle.apdu_codec.specs.Answer.{status_alone}
 use Rattle.apdu_codec.specs.Command.{Apdu}
 use Rattle.apdu_codec.specs.declared.status.Sw.{Sw}
 use Rattle.apdu_codec.specs.declared.status.TheConstants.Sw.{OK}
 use Rattle.file_rows.specs.declared.mode.Mode.{Mode}
 use Rattle.file_rows.specs.declared.row.FileRow.{FileRow}
-use Rattle.uicc_channels.specs.CommandOutcome.{CommandOutcome, answering}
+use Rattle.uicc_channels.specs.CommandOutcome.{CommandOutcome, answering, outcome_of}
 use Rattle.uicc_channels.specs.CommandRow.{CommandRow}
 use Rattle.uicc_channels.specs.Life.{life_refusal}
 use Rattle.uicc_channels.specs.Needs.{Needs, needs_of}
 use Rattle.uicc_channels.specs.Session.{open_channel}
+use Rattle.uicc_channels.specs.declared.decided.Decided.{Decided}
 use Rattle.uicc_channels.specs.declared.session.Session.{Session}
 use Rattle.uicc_data.specs.FileReference.{file_named, not_there}
 use Rattle.uicc_data.specs.declared.reference.FileReference.{FileReference}
@@ -23,6 +24,13 @@ pub record FileUse : Type 0 where
   -- what the command alone asks
   pub own : Option Sw
   pub done : CommandOutcome
+
+-- what came of a command on its file is what it does there: it was done, and this was decided, or
+-- the command itself refused
+abbrev pub FollowsUse : Session → FileUse → Decided → Result Unit Sw → Type 0
+FollowsUse session usage done (Ok _) =
+    (usage.own ≡ None) × (outcome_of session done ≡ usage.done)
+FollowsUse session usage done (Err sw) = usage.own ≡ Some sw
 
 -- what a command needs that reads: no body, and Le
 abbrev pub needs_of_reading : Session → Apdu → Needs

@@ -3,3 +3,6 @@ pub mod Binary
 pub mod CarriesOut
 pub mod FileReference
 pub mod FileUse
+pub mod Record
+pub mod RecordKind
+pub mod RecordWalk

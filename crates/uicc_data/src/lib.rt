@@ -5,11 +5,15 @@
 
 mod binary;
 mod laws;
+mod record;
 mod reference;
+mod walk;
 
 pub use binary::{BinaryPlace, read_binary, update_binary};
 pub use laws::cards_carry_out_data_commands;
+pub use record::{WritePlace, read_record, update_record};
 pub use reference::FileReference;
+pub use walk::{RecordName, RecordPlace};
 
 #[cfg(test)]
 mod tests;

@@ -1,11 +1,12 @@
 //! The file that a command works on, and how it becomes the channel's.
 ghost use Rattle.std.specs.Prelude.{◌≡◌, Some, None, IsTrue, MatchResult};
 ghost use Rattle.file_rows.specs.Find.{child_with_sfi};
-ghost use Rattle.uicc_channels.specs.Chan.{IsDirectoryIn};
+ghost use Rattle.uicc_channels.specs.Chan.{IsDirectoryIn, StandsAmong};
 ghost use Rattle.uicc_channels.specs.Session.{IsOpen};
 ghost use Rattle.uicc_channels.specs.SessionChange.{no_change, session_after};
 ghost use Rattle.uicc_tree.specs.Files.{Gives, IsLive, file_of, rows_of};
 ghost use Rattle.uicc_data.specs.FileReference.{file_named, not_there, pointer_at, standing_on, using};
+ghost use Rattle.uicc_data.specs.RecordWalk.{IsPointerIn};
 
 use apdu_codec::Sw;
 use file_rows::Path;
@@ -42,10 +43,11 @@ fn find_named(tree: &Tree, chan: &Chan, file: FileReference) -> Option<u32>
 
 // The file that a command works on. It goes down from the MF at most four times.
 pub(crate) fn find_file(tree: &Tree, chan: &Chan, file: FileReference) -> Result<u32, Sw>
-    requires { IsDirectoryIn (rows_of tree.now) chan.now.dir }
+    requires { StandsAmong (rows_of tree.now) chan.now }
     ensures { MatchResult result
         (λ node. IsLive tree.now node
-        × (file_named (rows_of tree.now) chan.now file ≡ Some (file_of tree.now node)))
+        × (file_named (rows_of tree.now) chan.now file ≡ Some (file_of tree.now node))
+        × IsPointerIn (file_of tree.now node).head (pointer_at chan.now file))
         (λ sw. (file_named (rows_of tree.now) chan.now file ≡ None) × (sw ≡ not_there file)) }
 {
     match find_named(tree, chan, file) {
