@@ -4,4 +4,5 @@ pub mod RecordCarryLemmas
 pub mod RecordLemmas
 pub mod ReferenceLemmas
 pub mod RowLemmas
+pub mod SearchLemmas
 pub mod SuitsLemmas

@@ -6,3 +6,4 @@ pub mod FileUse
 pub mod Record
 pub mod RecordKind
 pub mod RecordWalk
+pub mod Search

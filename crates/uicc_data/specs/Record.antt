@@ -1,5 +1,5 @@
 -- READ RECORD and UPDATE RECORD (ETSI TS 102 221).
-use Rattle.std.specs.Prelude.{ℕ, ◌/◌, ◌%◌, Bool, true, false, ◌==◌, ◌&&◌, ◌||◌, not, nat_le, if◌then◌else◌, List, length, Option, Some, None, option_and_then, option_map, unwrap_or, is_some}
+use Rattle.std.specs.Prelude.{ℕ, ◌/◌, ◌%◌, Bool, true, false, ◌==◌, ◌&&◌, ◌||◌, not, nat_le, if◌then◌else◌, List, length, Option, Some, None, option_and_then, option_map, unwrap_or, is_some, ◌≡◌, Result, Ok, Err}
 use Rattle.apdu_codec.specs.Answer.{status_alone}
 use Rattle.apdu_codec.specs.Command.{Apdu}
 use Rattle.apdu_codec.specs.declared.status.Sw.{Sw}
@@ -10,11 +10,12 @@ use Rattle.file_rows.specs.declared.head.FileHead.{FileHead}
 use Rattle.file_rows.specs.declared.mode.Mode.{Mode}
 use Rattle.file_rows.specs.declared.mode.Mode.TheVariants.{Bit}
 use Rattle.file_rows.specs.declared.row.FileRow.{FileRow}
-use Rattle.uicc_channels.specs.CommandOutcome.{CommandOutcome, answering}
+use Rattle.uicc_channels.specs.CommandOutcome.{CommandOutcome, answering, outcome_of}
 use Rattle.uicc_channels.specs.CommandRow.{CommandRow}
 use Rattle.uicc_channels.specs.Delivery.{le_refusal}
 use Rattle.uicc_channels.specs.Needs.{refused_unless}
 use Rattle.uicc_channels.specs.Session.{open_channel}
+use Rattle.uicc_channels.specs.declared.decided.Decided.{Decided}
 use Rattle.uicc_channels.specs.declared.session.Session.{Session}
 use Rattle.uicc_data.specs.FileReference.{pointer_at, using}
 use Rattle.uicc_data.specs.FileUse.{FileUse, needs_of_reading, needs_of_writing, on_named, where_named}
@@ -56,6 +57,12 @@ record_place p1 p2 =
 pub record RecordUse : Type 0 where
   pub own : Option Sw
   pub done : CommandOutcome
+
+-- what came of a command on its record is what it does there
+abbrev pub FollowsRecordUse : Session → RecordUse → Decided → Result Unit Sw → Type 0
+FollowsRecordUse session usage done (Ok _) =
+    (usage.own ≡ None) × (outcome_of session done ≡ usage.done)
+FollowsRecordUse session usage done (Err sw) = usage.own ≡ Some sw
 
 -- on the record that a command names, which may not be there
 abbrev pub at_record : {X : Type 0} → Session → (X → RecordUse) → Option X → RecordUse

@@ -4,15 +4,18 @@
 #![tactic(auto)]
 
 mod binary;
+mod delivery;
 mod laws;
 mod record;
 mod reference;
+mod search;
 mod walk;
 
 pub use binary::{BinaryPlace, read_binary, update_binary};
 pub use laws::cards_carry_out_data_commands;
 pub use record::{WritePlace, read_record, update_record};
 pub use reference::FileReference;
+pub use search::{Direction, SearchPlace, search_record};
 pub use walk::{RecordName, RecordPlace};
 
 #[cfg(test)]

@@ -70,7 +70,7 @@ pub(crate) fn pointer_at(chan: &Chan, file: FileReference) -> u8
 }
 
 // The channel on this file of its current directory, with this record pointer.
-fn standing_on(chan: &Chan, path: &Path, pointer: u8) -> Chan
+pub(crate) fn standing_on(chan: &Chan, path: &Path, pointer: u8) -> Chan
     ensures { result ≡ standing_on path.now pointer chan.now }
 {
     let mut after = chan.copy();

@@ -3,7 +3,7 @@ ghost use Rattle.std.specs.Prelude.{◌≡◌, ◌≤◌, ◌-◌, ◌*◌, ◌/
 ghost use Rattle.file_rows.specs.FileHead.{HasRecord};
 ghost use Rattle.uicc_tree.specs.Change.{AreRows};
 ghost use Rattle.uicc_tree.specs.Files.{IsLive, file_of, rows_of};
-ghost use Rattle.uicc_data.specs.Record.{record_file, record_name, record_place};
+ghost use Rattle.uicc_data.specs.Record.{numbered, record_file, record_name, record_place};
 ghost use Rattle.uicc_data.specs.RecordKind.{has_records, is_cyclic};
 ghost use Rattle.uicc_data.specs.RecordWalk.{HoldsWholeRecords, IsPointerIn, next_record, pointer_after, previous_record, record_at, record_count, record_in, record_named, record_numbered};
 
@@ -42,6 +42,16 @@ pub(crate) fn record_file(p2: u8) -> Option<FileReference>
     }
 }
 
+// The record of that number, and by 00 the one at the pointer.
+pub(crate) fn numbered(p1: u8) -> RecordName
+    ensures { result ≡ numbered p1 }
+{
+    match p1 {
+        0 => RecordName::Current,
+        _ => RecordName::Absolute(p1),
+    }
+}
+
 // The record that P1 and P2 name.
 fn record_name(p1: u8, p2: u8) -> Option<RecordName>
     ensures { result ≡ record_name p1 p2 }
@@ -49,8 +59,7 @@ fn record_name(p1: u8, p2: u8) -> Option<RecordName>
     match p2 % 8 {
         2 => Some(RecordName::Next),
         3 => Some(RecordName::Previous),
-        4 if p1 == 0 => Some(RecordName::Current),
-        4 => Some(RecordName::Absolute(p1)),
+        4 => Some(numbered(p1)),
         _ => None,
     }
 }
