@@ -1,5 +1,6 @@
 pub mod BinaryLemmas
 pub mod CarryLemmas
+pub mod NumberLemmas
 pub mod RecordCarryLemmas
 pub mod RecordLemmas
 pub mod ReferenceLemmas

@@ -116,3 +116,17 @@ record_there row pointer name whole is =
     each : (o : Option ℕ) → IfSome o (IsUpTo (record_count row.head)) → IfSome o (HasRecord row.head)
     each None up = tt
     each (Some number) up = has_record row number whole up.0 up.1
+
+-- a cyclic file has a first record
+cyclic_has : (kind : Kind) → is_cyclic kind ≡ true → has_records kind ≡ true
+cyclic_has Master e = absurd (cc)
+cyclic_has Directory e = absurd (cc)
+cyclic_has Application e = absurd (cc)
+cyclic_has Transparent e = absurd (cc)
+cyclic_has Linear e = refl
+cyclic_has Cyclic e = refl
+
+pub first_record : (row : FileRow) → IsRow row → is_cyclic row.head.kind ≡ true → HoldsWholeRecords row × HasRecord row.head 1
+first_record row is goes =
+    let whole : HoldsWholeRecords row = whole_records row is (cyclic_has row.head.kind goes) in
+    (whole, has_record row 1 whole (omega arith) whole.first)

@@ -3,6 +3,8 @@ pub mod Binary
 pub mod CarriesOut
 pub mod FileReference
 pub mod FileUse
+pub mod Increase
+pub mod Number
 pub mod Record
 pub mod RecordKind
 pub mod RecordWalk

@@ -5,13 +5,16 @@
 
 mod binary;
 mod delivery;
+mod increase_command;
 mod laws;
+mod number;
 mod record;
 mod reference;
 mod search;
 mod walk;
 
 pub use binary::{BinaryPlace, read_binary, update_binary};
+pub use increase_command::increase;
 pub use laws::cards_carry_out_data_commands;
 pub use record::{WritePlace, read_record, update_record};
 pub use reference::FileReference;
