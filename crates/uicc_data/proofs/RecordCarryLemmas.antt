@@ -34,6 +34,7 @@ use Rattle.uicc_data.specs.Record.{RecordUse, at_record, is_previous, new_first_
 use Rattle.uicc_data.specs.RecordKind.{has_records, is_cyclic}
 use Rattle.uicc_data.specs.RecordWalk.{HoldsWholeRecords, IsPointerIn, pointer_after, record_in}
 use Rattle.uicc_data.specs.declared.record.WritePlace.{WritePlace}
+use Rattle.uicc_data.specs.declared.reference.FileReference.{FileReference}
 use Rattle.uicc_data.specs.declared.walk.RecordName.{RecordName}
 use Rattle.uicc_data.specs.declared.walk.RecordName.TheVariants.{Next, Previous, Absolute, Current}
 use Rattle.uicc_data.specs.declared.walk.RecordPlace.{RecordPlace}
@@ -79,7 +80,7 @@ pointer_after_in head before Previous number is has = inr has
 pointer_after_in head before (Absolute named) number is has = is
 pointer_after_in head before Current number is has = is
 
-if_some : (P : ℕ → Type 0) (o : Option ℕ) (x : ℕ) → IfSome o P → o ≡ Some x → P x
+pub if_some : (P : ℕ → Type 0) (o : Option ℕ) (x : ℕ) → IfSome o P → o ≡ Some x → P x
 if_some P o x said e = subst (λ (o : Option ℕ). IfSome o P) e said
 
 -- where UPDATE RECORD writes there is a record, or it writes a new one into a cyclic file
@@ -112,19 +113,19 @@ exact_record row bytes e = (Decides-eqb (length bytes) row.head.record_len).0 (i
 
 module _ (content : Content) (valid : IsValid content) (session : Session) (suits : Suits session content.rows) (allowed : List ℕ → Mode → Bool) (c : Apdu) where
   -- what is known of the file that a record command works on
-  pub record OnRecords (place : RecordPlace) (row : FileRow) : Type 0 where
+  pub record OnRecords (file : FileReference) (row : FileRow) : Type 0 where
     pub among : IsAmong content.rows row
     pub whole : HoldsWholeRecords row
-    pub pointer : IsPointerIn row.head (pointer_at (open_channel session c.channel) place.file)
+    pub pointer : IsPointerIn row.head (pointer_at (open_channel session c.channel) file)
 
-  on_records : (place : RecordPlace) (row : FileRow) → file_named content.rows (open_channel session c.channel) place.file ≡ Some row → IsOpen session c.channel
-      → has_records row.head.kind ≡ true → OnRecords place row
-  on_records place row named is_open has =
-      let among : IsAmong content.rows row = named_among content.rows (open_channel session c.channel) place.file row (apart_rows content valid) named in
+  pub on_records : (file : FileReference) (row : FileRow) → file_named content.rows (open_channel session c.channel) file ≡ Some row → IsOpen session c.channel
+      → has_records row.head.kind ≡ true → OnRecords file row
+  on_records file row named is_open has =
+      let among : IsAmong content.rows row = named_among content.rows (open_channel session c.channel) file row (apart_rows content valid) named in
       record {
         among = among;
         whole = whole_records row (row_is content.rows (are_rows content valid) row.head.path row among) has;
-        pointer = pointer_stands content.rows (open_channel session c.channel) place.file row (chan_stands session content.rows c.channel suits is_open) named;
+        pointer = pointer_stands content.rows (open_channel session c.channel) file row (chan_stands session content.rows c.channel suits is_open) named;
       }
 
   pub CanCarryOut-read_record : CanCarryOut content (decided session (read_record_row content.rows allowed session c))
@@ -133,7 +134,7 @@ module _ (content : Content) (valid : IsValid content) (session : Session) (suit
       (λ place. on_file-has (CanCarryOut content) session (CanCarryOut-refused content session suits) (needs_of_reading session c) allowed (not_there place.file)
       (reading_record session c place) (file_named content.rows (open_channel session c.channel) place.file)
       (λ row named channel lengths kind own.
-      let on : OnRecords place row = on_records place row named channel kind in
+      let on : OnRecords place.file row = on_records place.file row named channel kind in
       let before : ℕ = pointer_at (open_channel session c.channel) place.file in
       at_record-has (CanCarryOut content) session (reading_number session c place row) (record_in row.head before place.name)
       (λ number at last. record {
@@ -151,7 +152,7 @@ module _ (content : Content) (valid : IsValid content) (session : Session) (suit
       (writing_record session c place) (file_named content.rows (open_channel session c.channel) place.file)
       (λ row named channel lengths kind own.
       let has : has_records row.head.kind ≡ true = updatable row.head.kind (is_previous place.name) kind in
-      let on : OnRecords place row = on_records place row named channel has in
+      let on : OnRecords place.file row = on_records place.file row named channel has in
       let before : ℕ = pointer_at (open_channel session c.channel) place.file in
       at_record-has (CanCarryOut content) session (writing_number session c row) (write_place row.head before place.name)
       (λ written at last.

@@ -69,13 +69,13 @@ has_record row number whole first last = record {
       omega (arith, wide, whole.size);
 }
 
-up_to_count : (row : FileRow) (number : ℕ) → HasRecord row.head number → number ≤ record_count row.head
+pub up_to_count : (row : FileRow) (number : ℕ) → HasRecord row.head number → number ≤ record_count row.head
 up_to_count row number has = le-div number row.head.size row.head.record_len (omega (arith, has.record_len)) has.last
 
 pointer_up_to : (row : FileRow) (pointer : ℕ) → IsPointerIn row.head pointer → pointer ≤ record_count row.head
 pointer_up_to row pointer is = ⊎_elim (λ none. omega (arith, none)) (λ has. up_to_count row pointer has) is
 
-abbrev IsUpTo : ℕ → ℕ → Type 0
+abbrev pub IsUpTo : ℕ → ℕ → Type 0
 IsUpTo count number = (1 ≤ number) × (number ≤ count)
 
 next_up_to : (goes_round : Bool) (count pointer : ℕ) → 1 ≤ count → IfSome (next_record goes_round count pointer) (IsUpTo count)
@@ -118,7 +118,7 @@ record_there row pointer name whole is =
     each (Some number) up = has_record row number whole up.0 up.1
 
 -- a cyclic file has a first record
-cyclic_has : (kind : Kind) → is_cyclic kind ≡ true → has_records kind ≡ true
+pub cyclic_has : (kind : Kind) → is_cyclic kind ≡ true → has_records kind ≡ true
 cyclic_has Master e = absurd (cc)
 cyclic_has Directory e = absurd (cc)
 cyclic_has Application e = absurd (cc)

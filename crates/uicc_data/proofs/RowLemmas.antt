@@ -12,11 +12,11 @@ use Rattle.uicc_channels.specs.Needs.{Needs, refusals, refused_unless}
 use Rattle.uicc_channels.specs.declared.session.Session.{Session}
 use Rattle.uicc_data.specs.FileUse.{FileUse, on_file, where_named, with_no_file}
 
-first_none : (one rest : Option Sw) → option_or one rest ≡ None → one ≡ None
+pub first_none : (one rest : Option Sw) → option_or one rest ≡ None → one ≡ None
 first_none None rest e = refl
 first_none (Some sw) rest e = e
 
-rest_none : (one rest : Option Sw) → option_or one rest ≡ None → rest ≡ None
+pub rest_none : (one rest : Option Sw) → option_or one rest ≡ None → rest ≡ None
 rest_none None rest e = e
 rest_none (Some sw) rest e = absurd (cc)
 

@@ -1,6 +1,7 @@
 pub mod Access
 pub mod Binary
 pub mod CarriesOut
+pub mod Data
 pub mod FileReference
 pub mod FileUse
 pub mod Increase

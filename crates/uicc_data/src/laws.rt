@@ -8,7 +8,10 @@ ghost use Rattle.uicc_channels.specs.Session.{Suits};
 ghost use Rattle.uicc_channels.specs.declared.session.Session.{Session};
 ghost use Rattle.uicc_data.specs.Binary.{read_binary_row, update_binary_row};
 ghost use Rattle.uicc_data.specs.CarriesOut.{CanCarryOut};
+ghost use Rattle.uicc_data.specs.Data.{data_row};
+ghost use Rattle.uicc_data.specs.Increase.{increase_row};
 ghost use Rattle.uicc_data.specs.Record.{read_record_row, update_record_row};
+ghost use Rattle.uicc_data.specs.Search.{search_record_row};
 
 /// A card can carry out what each command on data comes to, accepted or refused, whatever its
 /// access rules allow: a change fits its content, and its session goes on to suit its files.
@@ -29,4 +32,16 @@ pub fn cards_carry_out_data_commands()
         (c : Apdu) → IsValid content → Suits session content.rows
         → CanCarryOut content
         (decided session (update_record_row content.rows allowed session c)) }
+    ensures search_record { (content : Content) (allowed : List ℕ → Mode → Bool) (session : Session)
+        (c : Apdu) → IsValid content → Suits session content.rows
+        → CanCarryOut content
+        (decided session (search_record_row content.rows allowed session c)) }
+    ensures increase { (content : Content) (allowed : List ℕ → Mode → Bool) (session : Session)
+        (c : Apdu) → IsValid content → Suits session content.rows
+        → CanCarryOut content
+        (decided session (increase_row content.rows allowed session c)) }
+    ensures by_instruction { (content : Content) (allowed : List ℕ → Mode → Bool)
+        (session : Session) (c : Apdu) → IsValid content → Suits session content.rows
+        → CanCarryOut content
+        (decided session (data_row content.rows allowed session c)) }
 {}

@@ -5,6 +5,7 @@
 
 mod binary;
 mod delivery;
+mod dispatch;
 mod increase_command;
 mod laws;
 mod number;
@@ -14,6 +15,7 @@ mod search;
 mod walk;
 
 pub use binary::{BinaryPlace, read_binary, update_binary};
+pub use dispatch::data_command;
 pub use increase_command::increase;
 pub use laws::cards_carry_out_data_commands;
 pub use record::{WritePlace, read_record, update_record};
