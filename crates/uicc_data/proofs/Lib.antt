@@ -1,0 +1,11 @@
+pub mod BinaryLemmas
+pub mod CarryLemmas
+pub mod DataLemmas
+pub mod NumberLemmas
+pub mod RecordCarryLemmas
+pub mod RecordLemmas
+pub mod ReferenceLemmas
+pub mod RowLemmas
+pub mod SearchCarryLemmas
+pub mod SearchLemmas
+pub mod SuitsLemmas

@@ -1,0 +1,12 @@
+pub mod Access
+pub mod Binary
+pub mod CarriesOut
+pub mod Data
+pub mod FileReference
+pub mod FileUse
+pub mod Increase
+pub mod Number
+pub mod Record
+pub mod RecordKind
+pub mod RecordWalk
+pub mod Search

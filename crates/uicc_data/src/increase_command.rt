@@ -1,0 +1,151 @@
+ghost use Rattle.std.specs.Prelude.{◌≡◌, ◌+◌, ◌≤◌, ◌==◌, ◌++◌, ℕ, Bool, List, length, Some, None, IsTrue, MatchResult};
+ghost use Rattle.apdu_codec.specs.Command.{IsCommand, apdu_of};
+ghost use Rattle.file_rows.specs.declared.mode.Mode.{Mode};
+ghost use Rattle.uicc_channels.specs.CommandOutcome.{outcome_of};
+ghost use Rattle.uicc_channels.specs.CommandRow.{Follows, decided};
+ghost use Rattle.uicc_channels.specs.Session.{IsOpen, Suits};
+ghost use Rattle.uicc_tree.specs.Change.{AreRows};
+ghost use Rattle.uicc_tree.specs.Files.{IsLive, file_of, rows_of};
+ghost use Rattle.uicc_data.specs.Access.{AnswersFor};
+ghost use Rattle.uicc_data.specs.FileUse.{FollowsUse};
+ghost use Rattle.uicc_data.specs.Increase.{can_be_added, giving_sum, increase_file, increase_row, increasing};
+ghost use Rattle.uicc_data.specs.Record.{FollowsRecordUse};
+ghost use Rattle.uicc_data.specs.RecordKind.{is_cyclic};
+ghost use Rattle.uicc_data.specs.RecordWalk.{record_at};
+
+use crate::delivery::deliver_on;
+use crate::number::sum_of;
+use crate::reference::{FileReference, find_file};
+use crate::walk::{is_cyclic, record_at};
+use apdu_codec::{AnswerBody, Command, Sw, class_fits};
+use file_rows::{Change, Mode, Path, Piece};
+use uicc_channels::{Decided, Guard, Session, conclude, require, require_active, require_le};
+use uicc_tree::Tree;
+
+fn increase_file(p1: u8, p2: u8) -> Option<FileReference>
+    ensures { result ≡ increase_file p1 p2 }
+{
+    match (p1, p2) {
+        (0x00, 0x00) => Some(FileReference::CurrentEf),
+        (0x81..=0x9E, 0x00) => Some(FileReference::Sfi(p1 - 0x80)),
+        _ => None,
+    }
+}
+
+// Whether bytes are no more than a record, and one answer takes both.
+fn can_be_added(number: &[u8], addend: &[u8]) -> bool
+    requires few { length number.now ≤ 255 }
+    requires most { length addend.now ≤ 255 }
+    ensures { result ≡ can_be_added number.now addend.now }
+{
+    addend.len() <= number.len() && number.len() + addend.len() <= 256
+}
+
+// Makes the sum record 1, and delivers it with what was added.
+fn give_sum(
+    session: &Session,
+    command: &Command,
+    path: &Path,
+    sum: &Piece,
+    into: &mut Decided,
+) -> Result<(), Sw>
+    requires open { IsOpen session.now command.now.channel }
+    requires some { 1 ≤ length command.now.body.now }
+    requires most { length sum.now + length command.now.body.now ≤ 256 }
+    ensures { FollowsRecordUse session.now
+        (giving_sum session.now (apdu_of command.now) path.now (Some sum.now)) into.new result }
+{
+    let mut body = AnswerBody::from_slice(sum.as_slice());
+    body.extend_from_slice(command.body);
+    require_le(command.le, body.as_slice())?;
+    deliver_on(session, command, path, 1, body.as_slice(), into);
+    into.change = Some(Change::WriteRecord {
+        path: path.copy(),
+        number: 0,
+        bytes: sum.copy(),
+    });
+    Ok(())
+}
+
+// INCREASE on a cyclic file.
+fn increase_named(
+    tree: &Tree,
+    node: u32,
+    session: &Session,
+    command: &Command,
+    into: &mut Decided,
+) -> Result<(), Sw>
+    requires files { AreRows (rows_of tree.now) }
+    requires live { IsLive tree.now node }
+    requires kind { IsTrue (is_cyclic (file_of tree.now node).head.kind) }
+    requires open { IsOpen session.now command.now.channel }
+    requires some { 1 ≤ length command.now.body.now }
+    requires most { length command.now.body.now ≤ 255 }
+    ensures { FollowsUse session.now
+        (increasing session.now (apdu_of command.now) (file_of tree.now node))
+        into.new result }
+{
+    let number = record_at(tree, node, 1);
+    require(can_be_added(number, command.body), Sw::WRONG_LENGTH)?;
+    let Some(sum) = sum_of(number, command.body) else {
+        return Err(Sw::MAXIMUM_REACHED);
+    };
+    give_sum(session, command, &tree.head(node).path, &sum, into)?;
+    Ok(())
+}
+
+/// INCREASE (ETSI TS 102 221).
+pub fn increase<G: Guard>(
+    tree: &Tree,
+    guard: &G,
+    session: &Session,
+    command: &Command,
+    into: &mut Decided,
+)
+    requires files { AreRows (rows_of tree.now) }
+    requires spelled { IsCommand command.now }
+    requires open { IsOpen session.now command.now.channel }
+    requires suits { Suits session.now (rows_of tree.now) }
+    requires knows { (node : ℕ) → IsLive tree.now node → G.knows guard.now node }
+    ensures { (allowed : List ℕ → Mode → Bool)
+        → AnswersFor tree.now (λ node mode. G.answer guard.now node mode session.now) allowed
+        → outcome_of session.now into.new ≡ decided session.now
+        (increase_row (rows_of tree.now) allowed session.now (apdu_of command.now)) }
+{
+    let outcome = try_increase(tree, guard, session, command, into);
+    conclude(into, outcome);
+}
+
+fn try_increase<G: Guard>(
+    tree: &Tree,
+    guard: &G,
+    session: &Session,
+    command: &Command,
+    into: &mut Decided,
+) -> Result<(), Sw>
+    requires files { AreRows (rows_of tree.now) }
+    requires spelled { IsCommand command.now }
+    requires open { IsOpen session.now command.now.channel }
+    requires suits { Suits session.now (rows_of tree.now) }
+    requires knows { (node : ℕ) → IsLive tree.now node → G.knows guard.now node }
+    ensures { (allowed : List ℕ → Mode → Bool)
+        → AnswersFor tree.now (λ node mode. G.answer guard.now node mode session.now) allowed
+        → Follows session.now
+        (increase_row (rows_of tree.now) allowed session.now (apdu_of command.now))
+        into.new result }
+{
+    require(class_fits(command.ins, command.class), Sw::WRONG_CLASS)?;
+    let Some(file) = increase_file(command.p1, command.p2) else {
+        return Err(Sw::WRONG_P1_P2);
+    };
+    require(!command.body.is_empty(), Sw::WRONG_LENGTH)?;
+    let chan = session.open_channel(command.channel);
+    let node = find_file(tree, chan, file)?;
+    let head = tree.head(node);
+    require(is_cyclic(head.kind), Sw::INCOMPATIBLE_STRUCTURE)?;
+    require_active(head.life)?;
+    let allowed = guard.allows(node, Mode::Ins(0x32), session);
+    require(allowed, Sw::SECURITY_NOT_SATISFIED)?;
+    increase_named(tree, node, session, command, into)?;
+    Ok(())
+}
