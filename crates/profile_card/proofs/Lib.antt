@@ -1,3 +1,4 @@
+pub mod ClosedLemmas
 pub mod FollowLemmas
 pub mod GuardLemmas
 pub mod OwnLemmas

@@ -10,8 +10,9 @@ use Rattle.uicc_channels.specs.CommandOutcome.{CommandOutcome, refused}
 use Rattle.uicc_channels.specs.Session.{fresh_session}
 use Rattle.uicc_channels.specs.Verified.{is_verified}
 use Rattle.uicc_channels.specs.declared.decided.Decided.{Decided}
+use Rattle.uicc_data.specs.CarriesOut.{content_after}
 use Rattle.profile_card.proofs.FollowLemmas.{MayFollow-decision}
-use Rattle.profile_card.specs.Card.{Card, IsSound, MayFollow, card_after, content_after, outcome_at, settled}
+use Rattle.profile_card.specs.Card.{Card, IsSound, MayFollow, card_after, outcome_at, settled}
 use Rattle.profile_card.specs.Commands.{decision}
 use Rattle.profile_card.specs.Step.{Event, Outcome, Responds, Steps, StepsAt, carried_out, restarted, silent}
 use Rattle.profile_card.specs.Step.Event.{Command, Reset, Power, Bound, Unbound}

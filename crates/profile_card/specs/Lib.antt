@@ -1,10 +1,8 @@
-pub mod Answers
 pub mod Card
 pub mod Commands
 pub mod CardState
 pub mod Own
 pub mod PinCommands
-pub mod ReadBinary
 pub mod Sample
 pub mod Step
 pub mod Tables

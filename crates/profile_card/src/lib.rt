@@ -8,7 +8,6 @@ mod laws;
 mod pin_commands;
 mod pins;
 mod place;
-mod read_binary;
 mod sample;
 
 pub use card1::Card1;

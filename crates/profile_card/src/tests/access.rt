@@ -1,11 +1,9 @@
 // Access rules and PINs: the worked examples on the sample card, and a card of three levels with
 // access rules and PINs of its own directories.
-ghost use Rattle.std.specs.Prelude.{◌≤◌, length};
-
 use super::*;
 
 // A command of the sample card, and its answer.
-const PIN_ROWS: [Case; 19] = [
+const PIN_ROWS: [Case; 22] = [
     (b"\x00\xA4\x00\x0C\x02\x2F\x08", b"", 0x9000),
     (b"\x00\xB0\x00\x00\x05", b"", 0x6982),
     (b"\x00\x20\x00\x01", b"", 0x63C3),
@@ -29,6 +27,9 @@ const PIN_ROWS: [Case; 19] = [
     (b"\x00\x28\x00\x01\x084321\xFF\xFF\xFF\xFF", b"", 0x9000),
     (b"\x00\x2C\x00\x01", b"", 0x6A88),
     (b"\x00\xB0\x00\x00\x05", b"\xFF\xFF\xFF\xFF\xFF", 0x9000),
+    (b"\x00\xD6\x00\x01\x02\xAB\xCD", b"", 0x9000),
+    (b"\x00\xB0\x00\x00\x05", b"\xFF\xAB\xCD\xFF\xFF", 0x9000),
+    (b"\x00\xB0\x88\x01\x02", b"\xAB\xCD", 0x9000),
 ];
 
 const BLOCKED_ROWS: [Case; 6] = [
@@ -57,72 +58,83 @@ fn three_wrong_values_block_a_pin(rt: HostRuntime) -> Result<(), Fail> {
     Ok(())
 }
 
-// A file of one byte, or a directory, whose rule is this record of this EF ARR.
-fn place(alloc: Global, path: &[u16], kind: Kind, file: u16, row: u8) -> Result<FileRow, NoMemory>
-    requires { length path.now ≤ 4 }
-{
-    let body: &[u8] = if kind == Kind::Transparent {
-        &[0xAB]
-    } else {
-        &[]
-    };
-    let mut place = make_row(alloc, path, kind, Life::Active, b"", body)?;
-    place.head.rule = Some(Rule { file, row });
-    Ok(place)
-}
+// Records of 11 bytes: reading is always allowed; with key 81; a malformed record.
+const MASTER_RULES: &[u8] = b"\x80\x01\x01\x90\x00\xFF\xFF\xFF\xFF\xFF\xFF\
+    \x80\x01\x01\xA4\x06\x83\x01\x81\x95\x01\x08\
+    \x80\x01\x01\x90\x00\x80\x01\x01\xFF\xFF\xFF";
 
-// An EF ARR of records of 11 bytes, which anyone may read.
-fn rules(alloc: Global, path: &[u16], records: &[u8]) -> Result<FileRow, NoMemory>
-    requires path { length path.now ≤ 4 }
-    requires records { length records.now ≤ 65535 }
-{
-    let mut rules = make_row(alloc, path, Kind::Linear, Life::Active, b"", records)?;
-    rules.head.record_len = 11;
-    Ok(rules)
-}
+// Never; with key 81.
+const DIRECTORY_RULES: &[u8] = b"\x80\x01\x01\x97\x00\xFF\xFF\xFF\xFF\xFF\xFF\
+    \x80\x01\x01\xA4\x06\x83\x01\x81\x95\x01\x08";
 
-const ALWAYS: &[u8; 11] = b"\x80\x01\x01\x90\x00\xFF\xFF\xFF\xFF\xFF\xFF";
+const KEY_01: &[u8] = b"\x80\x01\x01\xA4\x06\x83\x01\x01\x95\x01\x08";
 
-const NEVER: &[u8; 11] = b"\x80\x01\x01\x97\x00\xFF\xFF\xFF\xFF\xFF\xFF";
+// A file: its path and kind, the EF ARR and the record of its rule, and its body.
+struct Entry(&'static [u16], Kind, u16, u8, &'static [u8]);
 
-const KEY_01: &[u8; 11] = b"\x80\x01\x01\xA4\x06\x83\x01\x01\x95\x01\x08";
+const EF: Kind = Kind::Transparent;
 
-const KEY_81: &[u8; 11] = b"\x80\x01\x01\xA4\x06\x83\x01\x81\x95\x01\x08";
-
-const MALFORMED: &[u8; 11] = b"\x80\x01\x01\x90\x00\x80\x01\x01\xFF\xFF\xFF";
+const DIRECTORY: Kind = Kind::Directory;
 
 // The MF, 7F10 with 5F3A in it, and 7F20. The MF and 7F10 have an EF ARR 2F06, and 5F3A has 6F06.
+const LEVELS: [Entry; 15] = [
+    Entry(&[], Kind::Master, 0x2F06, 1, &[]),
+    Entry(&[0x2F06], Kind::Linear, 0x2F06, 1, MASTER_RULES),
+    Entry(&[0x6F01], EF, 0x2F06, 1, &[0xAB]),
+    Entry(&[0x6F02], EF, 0x2F06, 3, &[0xAB]),
+    Entry(&[0x6F03], EF, 0x2F06, 4, &[0xAB]),
+    Entry(&[0x7F10], DIRECTORY, 0x2F06, 1, &[]),
+    Entry(&[0x7F10, 0x2F06], Kind::Linear, 0x2F06, 1, DIRECTORY_RULES),
+    Entry(&[0x7F10, 0x6F01], EF, 0x2F06, 1, &[0xAB]),
+    Entry(&[0x7F10, 0x5F3A], DIRECTORY, 0x2F06, 1, &[]),
+    Entry(&[0x7F10, 0x5F3A, 0x6F06], Kind::Linear, 0x2F06, 1, KEY_01),
+    Entry(&[0x7F10, 0x5F3A, 0x6F01], EF, 0x2F06, 2, &[0xAB]),
+    Entry(&[0x7F10, 0x5F3A, 0x6F02], EF, 0x6F06, 1, &[0xAB]),
+    Entry(&[0x7F20], DIRECTORY, 0x2F06, 1, &[]),
+    Entry(&[0x7F20, 0x6F01], EF, 0x2F06, 2, &[0xAB]),
+    Entry(&[0x7F20, 0x6F02], EF, 0x6F06, 1, &[0xAB]),
+];
+
+fn file_of(alloc: Global, entry: &Entry) -> Result<FileRow, Fail> {
+    if entry.0.len() > 4 || entry.4.len() > 65535 {
+        return Err(Fail::from("no file has this path or size"));
+    }
+    let mut file = make_row(alloc, entry.0, entry.1, Life::Active, b"", entry.4)?;
+    file.head.rule = Some(Rule {
+        file: entry.2,
+        row: entry.3,
+    });
+    if entry.1 == Kind::Linear {
+        file.head.record_len = 11;
+    }
+    Ok(file)
+}
+
+fn files_of(alloc: Global, entries: &[Entry]) -> Result<Vec<FileRow>, Fail> {
+    let mut files = Vec::new(alloc);
+    for entry in entries {
+        files.push(file_of(alloc, entry)?)?;
+    }
+    Ok(files)
+}
+
+// A PIN of this key at home in a directory under the MF.
+fn local_pin(number: u8, key: u8, directory: u16) -> PinRow {
+    PinRow {
+        home: Path::from_slice(&[directory]),
+        ..make_pin(number, key)
+    }
+}
+
 fn three_levels(alloc: Global) -> Result<Content, Fail> {
-    let ef = Kind::Transparent;
-    let mut of_mf = Vec::from_slice(alloc, ALWAYS)?;
-    of_mf.extend_from_slice(KEY_81)?;
-    of_mf.extend_from_slice(MALFORMED)?;
-    let mut of_directory = Vec::from_slice(alloc, NEVER)?;
-    of_directory.extend_from_slice(KEY_81)?;
-    let rows = [
-        place(alloc, &[], Kind::Master, 0x2F06, 1)?,
-        rules(alloc, &[0x2F06], &of_mf)?,
-        place(alloc, &[0x6F01], ef, 0x2F06, 1)?,
-        place(alloc, &[0x6F02], ef, 0x2F06, 3)?,
-        place(alloc, &[0x6F03], ef, 0x2F06, 4)?,
-        place(alloc, &[0x7F10], Kind::Directory, 0x2F06, 1)?,
-        rules(alloc, &[0x7F10, 0x2F06], &of_directory)?,
-        place(alloc, &[0x7F10, 0x6F01], ef, 0x2F06, 1)?,
-        place(alloc, &[0x7F10, 0x5F3A], Kind::Directory, 0x2F06, 1)?,
-        rules(alloc, &[0x7F10, 0x5F3A, 0x6F06], KEY_01)?,
-        place(alloc, &[0x7F10, 0x5F3A, 0x6F01], ef, 0x2F06, 2)?,
-        place(alloc, &[0x7F10, 0x5F3A, 0x6F02], ef, 0x6F06, 1)?,
-        place(alloc, &[0x7F20], Kind::Directory, 0x2F06, 1)?,
-        place(alloc, &[0x7F20, 0x6F01], ef, 0x2F06, 2)?,
-        place(alloc, &[0x7F20, 0x6F02], ef, 0x6F06, 1)?,
+    let files = files_of(alloc, &LEVELS)?;
+    let pins = [
+        make_pin(1, 0x01),
+        local_pin(2, 0x81, 0x7F10),
+        local_pin(3, 0x81, 0x7F20),
     ];
-    let mut of_second = make_pin(2, 0x81);
-    of_second.home = Path::from_slice(&[0x7F10]);
-    let mut of_third = make_pin(3, 0x81);
-    of_third.home = Path::from_slice(&[0x7F20]);
-    let pins = [make_pin(1, 0x01), of_second, of_third];
     Ok(Content {
-        rows: LongList::from(Vec::from_array(alloc, rows)?),
+        rows: LongList::from(files),
         pins: LongList::from(Vec::from_array(alloc, pins)?),
     })
 }
