@@ -9,3 +9,4 @@ pub mod RowLemmas
 pub mod SearchCarryLemmas
 pub mod SearchLemmas
 pub mod SuitsLemmas
+pub mod TestLemmas
