@@ -33,7 +33,7 @@ use Rattle.uicc_data.specs.FileUse.{needs_of_reading, needs_of_writing}
 use Rattle.uicc_data.specs.Record.{RecordUse, at_record, is_previous, new_first_record, read_record_row, reading_number, reading_record, record_place, update_record_row, write_place, writing_number, writing_record}
 use Rattle.uicc_data.specs.RecordKind.{has_records, is_cyclic}
 use Rattle.uicc_data.specs.RecordWalk.{HoldsWholeRecords, IsPointerIn, pointer_after, record_in}
-use Rattle.uicc_data.specs.declared.record.WritePlace.{WritePlace}
+use Rattle.uicc_data.specs.declared.record_update.WritePlace.{WritePlace}
 use Rattle.uicc_data.specs.declared.reference.FileReference.{FileReference}
 use Rattle.uicc_data.specs.declared.walk.RecordName.{RecordName}
 use Rattle.uicc_data.specs.declared.walk.RecordName.TheVariants.{Next, Previous, Absolute, Current}
