@@ -1,11 +1,10 @@
-use Rattle.std.proofs.Common.{◌≡◌, ◌≤◌, ◌+◌, ℕ, Bool, true, false, cond, List, length, refl, sym, ◌∙◌, subst, Option, Some, None, arith}
+use Rattle.std.proofs.Common.{◌≡◌, ◌≤◌, ◌+◌, ℕ, Bool, true, false, cond, List, length, refl, Some, None, arith}
 use Rattle.std.proofs.lemmas.Bool.Decides.{nat_tests}
 use Rattle.std.specs.Prelude.{nat_le, nat_lt}
 use Rattle.apdu_codec.specs.Command.{Apdu}
-use Rattle.apdu_codec.specs.declared.status.Sw.{Sw}
 use Rattle.apdu_codec.specs.declared.status.TheConstants.Sw.{WRONG_LENGTH, WRONG_OFFSET}
 use Rattle.file_rows.proofs.ConditionLemmas.{fits_where}
-use Rattle.file_rows.specs.Change.{Fits, written}
+use Rattle.file_rows.specs.Change.{written}
 use Rattle.file_rows.specs.Content.{IsValid}
 use Rattle.file_rows.specs.FileHead.{holds_files, is_transparent}
 use Rattle.file_rows.specs.declared.change.Change.TheVariants.{WriteRange}
@@ -14,9 +13,7 @@ use Rattle.file_rows.specs.declared.head.Kind.{Kind}
 use Rattle.file_rows.specs.declared.head.Kind.TheVariants.{Master, Directory, Application, Transparent, Linear, Cyclic}
 use Rattle.file_rows.specs.declared.mode.Mode.{Mode}
 use Rattle.file_rows.specs.declared.row.FileRow.{FileRow}
-use Rattle.uicc_channels.specs.CommandOutcome.{CommandOutcome}
 use Rattle.uicc_channels.specs.CommandRow.{decided}
-use Rattle.uicc_channels.specs.Needs.{Needs, needs_of}
 use Rattle.uicc_channels.specs.Session.{IsOpen, Suits, open_channel}
 use Rattle.uicc_channels.specs.declared.session.Session.{Session}
 use Rattle.uicc_data.proofs.CarryLemmas.{CanCarryOut-refused, apart_rows, at_its_path}
@@ -25,7 +22,7 @@ use Rattle.uicc_data.proofs.SuitsLemmas.{IsAmong, Suits-using, Suits-written, ch
 use Rattle.uicc_data.specs.Binary.{binary_place, read_binary_row, reading, update_binary_row, write_refusal, writing}
 use Rattle.uicc_data.specs.CarriesOut.{CanCarryOut}
 use Rattle.uicc_data.specs.FileReference.{file_named, not_there, pointer_at, using}
-use Rattle.uicc_data.specs.FileUse.{needs_of_reading, needs_of_writing, on_file}
+use Rattle.uicc_data.specs.FileUse.{needs_of_reading, needs_of_writing}
 use Rattle.uicc_data.specs.declared.binary.BinaryPlace.{BinaryPlace}
 
 -- a transparent file holds no files

@@ -1,13 +1,12 @@
 -- A card can carry out what a command on a file comes to.
-use Rattle.std.proofs.Common.{◌≡◌, ◌≤◌, ◌+◌, ◌⊎◌, ℕ, Bool, true, false, cond, List, length, refl, sym, ◌∙◌, ap, subst, ⊎_elim, Option, Some, None, arith}
+use Rattle.std.proofs.Common.{List, sym, subst, ⊎_elim, Option}
 use Rattle.std.specs.Prelude.{IsSomeAnd}
 use Rattle.apdu_codec.specs.declared.status.Sw.{Sw}
 use Rattle.file_rows.specs.Content.{IsValid, file_at}
-use Rattle.file_rows.specs.FileHead.{HasRecord, holds_files}
 use Rattle.file_rows.specs.declared.content.Content.{Content}
 use Rattle.file_rows.specs.declared.row.FileRow.{FileRow}
-use Rattle.uicc_channels.specs.CommandOutcome.{CommandOutcome, refused}
-use Rattle.uicc_channels.specs.Session.{IsOpen, Suits, open_channel}
+use Rattle.uicc_channels.specs.CommandOutcome.{refused}
+use Rattle.uicc_channels.specs.Session.{Suits}
 use Rattle.uicc_channels.specs.declared.session.Session.{Session}
 use Rattle.uicc_data.proofs.SuitsLemmas.{AreApart, IsAmong}
 use Rattle.uicc_data.specs.CarriesOut.{CanCarryOut}

@@ -1,5 +1,5 @@
 -- The row of a command by its instruction.
-use Rattle.std.proofs.Common.{◌≡◌, ◌≢◌, ℕ, Bool, true, false, cond, List, refl, sym, ◌∙◌}
+use Rattle.std.proofs.Common.{◌≡◌, ◌≢◌, ℕ, Bool, true, false, cond, List, refl}
 use Rattle.std.proofs.lemmas.Bool.Decides.{Decides-eqb}
 use Rattle.std.specs.Prelude.{◌==◌}
 use Rattle.apdu_codec.specs.Command.{Apdu}
@@ -8,7 +8,6 @@ use Rattle.file_rows.specs.Content.{IsValid}
 use Rattle.file_rows.specs.declared.content.Content.{Content}
 use Rattle.file_rows.specs.declared.mode.Mode.{Mode}
 use Rattle.file_rows.specs.declared.row.FileRow.{FileRow}
-use Rattle.uicc_channels.specs.CommandOutcome.{CommandOutcome}
 use Rattle.uicc_channels.specs.CommandRow.{CommandRow, decided}
 use Rattle.uicc_channels.specs.Session.{Suits}
 use Rattle.uicc_channels.specs.declared.session.Session.{Session}

@@ -10,3 +10,4 @@ pub mod RowLemmas
 pub mod SearchCarryLemmas
 pub mod SearchLemmas
 pub mod SuitsLemmas
+pub mod TestLemmas

@@ -1,5 +1,5 @@
 -- A card can carry out what READ RECORD and UPDATE RECORD come to.
-use Rattle.std.proofs.Common.{◌≡◌, ◌≤◌, ◌⊎◌, ℕ, Bool, true, false, cond, ◌&&◌, ◌||◌, List, length, refl, sym, ◌∙◌, subst, inl, inr, ⊎_elim, Option, Some, None, IfSome, arith}
+use Rattle.std.proofs.Common.{◌≡◌, ◌⊎◌, ℕ, Bool, true, false, cond, ◌&&◌, ◌||◌, List, length, refl, subst, inl, inr, ⊎_elim, Option, Some, None, IfSome, arith}
 use Rattle.std.proofs.lemmas.Bool.Decides.{Decides-eqb}
 use Rattle.std.specs.Option.{option_map}
 use Rattle.std.specs.Prelude.{◌==◌}
@@ -28,16 +28,15 @@ use Rattle.uicc_data.proofs.RecordLemmas.{has_record, record_there, whole_record
 use Rattle.uicc_data.proofs.RowLemmas.{is_met, on_file-has, where_named-has}
 use Rattle.uicc_data.proofs.SuitsLemmas.{IsAmong, Suits-using, Suits-written, chan_stands, named_among, pointer_stands}
 use Rattle.uicc_data.specs.CarriesOut.{CanCarryOut}
-use Rattle.uicc_data.specs.FileReference.{file_named, not_there, pointer_at, using}
+use Rattle.uicc_data.specs.FileReference.{file_named, not_there, pointer_at}
 use Rattle.uicc_data.specs.FileUse.{needs_of_reading, needs_of_writing}
 use Rattle.uicc_data.specs.Record.{RecordUse, at_record, is_previous, new_first_record, read_record_row, reading_number, reading_record, record_place, update_record_row, write_place, writing_number, writing_record}
 use Rattle.uicc_data.specs.RecordKind.{has_records, is_cyclic}
 use Rattle.uicc_data.specs.RecordWalk.{HoldsWholeRecords, IsPointerIn, pointer_after, record_in}
-use Rattle.uicc_data.specs.declared.record.WritePlace.{WritePlace}
+use Rattle.uicc_data.specs.declared.record_update.WritePlace.{WritePlace}
 use Rattle.uicc_data.specs.declared.reference.FileReference.{FileReference}
 use Rattle.uicc_data.specs.declared.walk.RecordName.{RecordName}
 use Rattle.uicc_data.specs.declared.walk.RecordName.TheVariants.{Next, Previous, Absolute, Current}
-use Rattle.uicc_data.specs.declared.walk.RecordPlace.{RecordPlace}
 
 -- a file with records holds no files
 pub bare_records : (kind : Kind) → has_records kind ≡ true → holds_files kind ≡ false

@@ -1,9 +1,9 @@
-use Rattle.std.proofs.Common.{◌≡◌, ◌≤◌, ◌<◌, ◌+◌, ◌-◌, ◌*◌, ◌/◌, ℕ, Bool, true, false, cond, ◌||◌, List, [], ◌∷◌, length, map, Contains, refl, sym, ◌∙◌, ap, subst, inl, inr, ⊎_elim, Option, Some, None, IfSome, arith}
-use Rattle.std.proofs.Math.Nat.{div-mul-le_self, mul-div_cancel}
+use Rattle.std.proofs.Common.{◌≡◌, ◌≤◌, ◌+◌, ◌-◌, ◌*◌, ◌/◌, ℕ, Bool, true, false, cond, ◌||◌, List, [], ◌∷◌, length, map, Contains, refl, sym, ◌∙◌, ap, subst, ⊎_elim, Option, Some, None, IfSome, arith}
+use Rattle.std.proofs.Math.Nat.{mul-div_cancel}
 use Rattle.std.proofs.lemmas.Bool.Decides.{nat_tests}
 use Rattle.std.proofs.lemmas.Nat.{le-div}
 use Rattle.std.specs.List.{AllByRecursion}
-use Rattle.std.specs.Prelude.{◌==◌, nat_lt, IsTrue}
+use Rattle.std.specs.Prelude.{◌==◌, nat_lt}
 use Rattle.file_rows.proofs.FilesLemmas.{formed_of}
 use Rattle.file_rows.proofs.ListLemmas.{contains_cases}
 use Rattle.file_rows.specs.FileHead.{HasForm, HasRecord, HoldsRecords, IsFile}

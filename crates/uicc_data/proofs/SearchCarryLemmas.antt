@@ -1,5 +1,5 @@
 -- A card can carry out what SEARCH RECORD and INCREASE come to.
-use Rattle.std.proofs.Common.{◌≡◌, ◌≤◌, ◌<◌, ◌+◌, ◌-◌, ◌*◌, ◌%◌, ◌^◌, ℕ, zero, suc, Bool, true, false, cond, List, [], ◌∷◌, ◌++◌, length, length-take-le, length-drop, take, drop, refl, sym, ◌∙◌, ap, subst, inl, inr, Option, Some, None, IfSome, arith}
+use Rattle.std.proofs.Common.{◌≡◌, ◌≤◌, ◌+◌, ◌-◌, ◌*◌, ◌%◌, ◌^◌, ℕ, zero, suc, Bool, true, false, cond, List, [], ◌∷◌, ◌++◌, length, length-take-le, length-drop, drop, refl, sym, ◌∙◌, ap, inr, Option, Some, None, IfSome, arith}
 use Rattle.std.specs.List.{AllByRecursion}
 use Rattle.std.specs.Prelude.{nat_lt}
 use Rattle.apdu_codec.specs.Command.{Apdu}
@@ -12,7 +12,6 @@ use Rattle.file_rows.specs.Content.{IsValid}
 use Rattle.file_rows.specs.FileHead.{HasRecord, holds_files}
 use Rattle.file_rows.specs.declared.change.Change.TheVariants.{WriteRecord}
 use Rattle.file_rows.specs.declared.content.Content.{Content}
-use Rattle.file_rows.specs.declared.head.Kind.{Kind}
 use Rattle.file_rows.specs.declared.head.Kind.TheVariants.{Cyclic}
 use Rattle.file_rows.specs.declared.mode.Mode.{Mode}
 use Rattle.file_rows.specs.declared.row.FileRow.{FileRow}
@@ -35,10 +34,8 @@ use Rattle.uicc_data.specs.Increase.{can_be_added, giving_sum, increase_file, in
 use Rattle.uicc_data.specs.Number.{bytes_of, sum_of, value_of}
 use Rattle.uicc_data.specs.RecordWalk.{HoldsWholeRecords, record_at, record_count, record_in}
 use Rattle.uicc_data.specs.Search.{found_from, giving_numbers, holds_run, records_left, search_place, search_record_row, search_start, searching, walk}
-use Rattle.uicc_data.specs.declared.reference.FileReference.{FileReference}
 use Rattle.uicc_data.specs.declared.search.Direction.{Direction}
 use Rattle.uicc_data.specs.declared.search.Direction.TheVariants.{Forwards, Backwards}
-use Rattle.uicc_data.specs.declared.search.SearchPlace.{SearchPlace}
 
 -- the numbers of a walk are those of records
 forwards_up_to : (count number more : ℕ) → 1 ≤ number → number + more ≤ count + 1 → AllByRecursion (IsUpTo count) (walk Forwards number more)

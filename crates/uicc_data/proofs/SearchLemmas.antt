@@ -1,7 +1,7 @@
-use Rattle.std.proofs.Common.{◌≡◌, ◌≤◌, ◌<◌, ◌+◌, ◌-◌, ℕ, zero, suc, Bool, true, false, cond, ◌||◌, List, [], ◌∷◌, ◌++◌, length, length-append, drop, drop-cons, get_or, set, add-one, append_assoc, nat_eq, refl, sym, ◌∙◌, ap, subst, inl, inr, ⊎_elim, Option, Some, None, arith}
+use Rattle.std.proofs.Common.{◌≡◌, ◌≤◌, ◌<◌, ◌+◌, ◌-◌, ℕ, suc, Bool, true, false, cond, List, [], ◌∷◌, ◌++◌, length, length-append, drop, drop-cons, get_or, add-one, append_assoc, nat_eq, refl, sym, ap, inl, inr, Option, Some, None, arith}
 use Rattle.std.proofs.lemmas.Bool.{cases_lt}
 use Rattle.std.proofs.lemmas.List.{get_or_past, set-set}
-use Rattle.std.specs.List.{filter, starts_with}
+use Rattle.std.specs.List.{starts_with}
 use Rattle.file_rows.specs.declared.row.FileRow.{FileRow}
 use Rattle.uicc_channels.proofs.SessionLemmas.{channel_at-with_channel_same}
 use Rattle.uicc_channels.specs.Chan.{holding}

@@ -1,5 +1,5 @@
 -- A session goes on to suit its card after a command on a file.
-use Rattle.std.proofs.Common.{◌≡◌, ◌≢◌, ◌⊎◌, ℕ, Bool, true, false, cond, ◌&&◌, List, [], ◌∷◌, map, find, refl, sym, ◌∙◌, ap, subst, inl, inr, ⊎_elim, Option, Some, None, IfSome, IsSome, option_map}
+use Rattle.std.proofs.Common.{◌≡◌, ◌≢◌, ◌⊎◌, ℕ, Bool, true, false, cond, ◌&&◌, List, [], ◌∷◌, find, refl, sym, ◌∙◌, ap, subst, inl, inr, ⊎_elim, Option, Some, None, IfSome, IsSome}
 use Rattle.std.proofs.lemmas.Bool.{true≢false}
 use Rattle.std.specs.List.{AllByRecursion}
 use Rattle.std.specs.Option.{option_and_then, unwrap_or}
@@ -15,7 +15,7 @@ use Rattle.file_rows.specs.declared.head.FileHead.{FileHead}
 use Rattle.file_rows.specs.declared.head.Kind.TheVariants.{Application}
 use Rattle.file_rows.specs.declared.row.FileRow.{FileRow}
 use Rattle.uicc_channels.proofs.SessionLemmas.{Suits-with_channel}
-use Rattle.uicc_channels.specs.Chan.{IsDirectoryIn, StandsAmong, at_master, current_file}
+use Rattle.uicc_channels.specs.Chan.{IsDirectoryIn, StandsAmong, at_master}
 use Rattle.uicc_channels.specs.Session.{IsOpen, Suits, channel_at, open_channel}
 use Rattle.uicc_channels.specs.declared.chan.Chan.{Chan}
 use Rattle.uicc_channels.specs.declared.session.Session.{Session}

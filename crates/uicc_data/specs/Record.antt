@@ -1,5 +1,5 @@
 -- READ RECORD and UPDATE RECORD (ETSI TS 102 221).
-use Rattle.std.specs.Prelude.{ℕ, ◌/◌, ◌%◌, Bool, true, false, ◌==◌, ◌&&◌, ◌||◌, not, nat_le, if◌then◌else◌, List, length, Option, Some, None, option_and_then, option_map, unwrap_or, is_some, ◌≡◌, Result, Ok, Err}
+use Rattle.std.specs.Prelude.{ℕ, ◌/◌, ◌%◌, Bool, true, false, ◌==◌, ◌&&◌, ◌||◌, nat_le, if◌then◌else◌, List, length, Option, Some, None, option_and_then, option_map, ◌≡◌, Result, Ok, Err}
 use Rattle.apdu_codec.specs.Answer.{status_alone}
 use Rattle.apdu_codec.specs.Command.{Apdu}
 use Rattle.apdu_codec.specs.declared.status.Sw.{Sw}
@@ -23,7 +23,7 @@ use Rattle.uicc_data.specs.RecordKind.{has_records, is_cyclic}
 use Rattle.uicc_data.specs.RecordWalk.{pointer_after, record_at, record_in}
 use Rattle.uicc_data.specs.declared.walk.RecordName.{RecordName}
 use Rattle.uicc_data.specs.declared.walk.RecordName.TheVariants.{Next, Previous, Absolute, Current}
-use Rattle.uicc_data.specs.declared.record.WritePlace.{WritePlace}
+use Rattle.uicc_data.specs.declared.record_update.WritePlace.{WritePlace}
 use Rattle.uicc_data.specs.declared.walk.RecordPlace.{RecordPlace}
 use Rattle.uicc_data.specs.declared.reference.FileReference.{FileReference}
 use Rattle.uicc_data.specs.declared.reference.FileReference.TheVariants.{CurrentEf, Sfi}

@@ -9,9 +9,11 @@ ghost use Rattle.uicc_tree.specs.Files.{IsLive, rows_of};
 ghost use Rattle.uicc_data.specs.Access.{AnswersFor};
 ghost use Rattle.uicc_data.specs.Data.{IsOnData, data_row};
 
-use crate::binary::{read_binary, update_binary};
+use crate::binary_read::read_binary;
+use crate::binary_update::update_binary;
 use crate::increase_command::increase;
-use crate::record::{read_record, update_record};
+use crate::record_read::read_record;
+use crate::record_update::update_record;
 use crate::search::search_record;
 use apdu_codec::{Command, ins};
 use uicc_channels::{Decided, Guard, Session};

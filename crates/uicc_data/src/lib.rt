@@ -4,21 +4,27 @@
 #![tactic(auto)]
 
 mod binary;
+mod binary_read;
+mod binary_update;
 mod delivery;
 mod dispatch;
 mod increase_command;
 mod laws;
 mod number;
-mod record;
+mod record_read;
+mod record_update;
 mod reference;
 mod search;
 mod walk;
 
-pub use binary::{BinaryPlace, read_binary, update_binary};
+pub use binary::BinaryPlace;
+pub use binary_read::read_binary;
+pub use binary_update::update_binary;
 pub use dispatch::data_command;
 pub use increase_command::increase;
 pub use laws::cards_carry_out_data_commands;
-pub use record::{WritePlace, read_record, update_record};
+pub use record_read::read_record;
+pub use record_update::{WritePlace, update_record};
 pub use reference::FileReference;
 pub use search::{Direction, SearchPlace, search_record};
 pub use walk::{RecordName, RecordPlace};

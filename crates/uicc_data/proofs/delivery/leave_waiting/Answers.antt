@@ -1,4 +1,3 @@
-use Rattle.std.proofs.Common.{◌≡◌}
 use Rattle.uicc_channels.specs.Session.{open_channel}
 use Rattle.uicc_data.proofs.SearchLemmas.{waiting_moved}
 use Rattle.uicc_data.specs.FileReference.{standing_on}

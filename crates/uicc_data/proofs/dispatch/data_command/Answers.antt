@@ -1,4 +1,4 @@
-use Rattle.std.proofs.Common.{◌≡◌, ◌∙◌, ap, arith}
+use Rattle.std.proofs.Common.{◌∙◌, ap, arith}
 use Rattle.apdu_codec.specs.Command.{apdu_of}
 use Rattle.uicc_channels.specs.CommandRow.{CommandRow, decided}
 use Rattle.uicc_tree.specs.Files.{rows_of}

@@ -1,4 +1,4 @@
-use Rattle.std.proofs.Common.{◌≡◌, ◌+◌, ◌-◌, ◌/◌, ◌≤◌, ◌<◌, ◌%◌, ℕ, length, length-set, get_or, ◌∙◌, arith}
+use Rattle.std.proofs.Common.{◌+◌, ◌-◌, ℕ, length, length-set, ◌∙◌, arith}
 use Rattle.uicc_data.proofs.NumberLemmas.{each_set, sum_done, sum_more}
 use Rattle.uicc_data.proofs.number.sum_of.Goals as goal
 

@@ -1,4 +1,4 @@
-use Rattle.std.proofs.Common.{◌≡◌, refl, sym}
+use Rattle.std.proofs.Common.{refl, sym}
 use Rattle.uicc_data.proofs.ReferenceLemmas.{using_already}
 use Rattle.uicc_data.proofs.reference.use_file.Goals as goal
 

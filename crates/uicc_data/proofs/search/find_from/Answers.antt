@@ -1,4 +1,4 @@
-use Rattle.std.proofs.Common.{◌≡◌, ◌∙◌}
+use Rattle.std.proofs.Common.{◌∙◌}
 use Rattle.uicc_tree.specs.Files.{file_of}
 use Rattle.uicc_data.proofs.SearchLemmas.{found_more, length_more}
 use Rattle.uicc_data.proofs.search.find_from.Goals as goal

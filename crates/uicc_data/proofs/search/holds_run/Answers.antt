@@ -1,4 +1,4 @@
-use Rattle.std.proofs.Common.{◌≡◌, ◌∙◌, sym}
+use Rattle.std.proofs.Common.{◌∙◌, sym}
 use Rattle.file_rows.proofs.EachLemmas.{take_rest}
 use Rattle.uicc_data.proofs.SearchLemmas.{no_run_here}
 use Rattle.uicc_data.proofs.search.holds_run.Goals as goal

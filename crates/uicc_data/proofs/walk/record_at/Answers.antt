@@ -1,4 +1,3 @@
-use Rattle.std.proofs.Common.{◌≡◌, length, ap, ◌∙◌, arith}
 use Rattle.uicc_tree.specs.Change.{IsRow}
 use Rattle.uicc_tree.specs.Files.{file_of}
 use Rattle.uicc_data.proofs.RecordLemmas.{live_is_row}

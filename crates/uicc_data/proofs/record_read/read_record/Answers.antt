@@ -1,7 +1,7 @@
 use Rattle.apdu_codec.specs.Command.{apdu_of}
 use Rattle.uicc_tree.specs.Files.{rows_of}
 use Rattle.uicc_data.specs.Record.{read_record_row}
-use Rattle.uicc_data.proofs.record.read_record.Goals as goal
+use Rattle.uicc_data.proofs.record_read.read_record.Goals as goal
 
 pub returns : goal.returns
 returns g c allowed answers =

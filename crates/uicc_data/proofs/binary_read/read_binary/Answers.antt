@@ -1,7 +1,7 @@
 use Rattle.apdu_codec.specs.Command.{apdu_of}
 use Rattle.uicc_tree.specs.Files.{rows_of}
 use Rattle.uicc_data.specs.Binary.{read_binary_row}
-use Rattle.uicc_data.proofs.binary.read_binary.Goals as goal
+use Rattle.uicc_data.proofs.binary_read.read_binary.Goals as goal
 
 pub returns : goal.returns
 returns g c allowed answers =

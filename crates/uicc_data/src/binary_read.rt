@@ -1,0 +1,99 @@
+ghost use Rattle.std.specs.Prelude.{◌≡◌, ◌+◌, ◌-◌, ◌<◌, ◌≤◌, ◌==◌, nat_le, nat_lt, ℕ, Bool, List, length, take, drop, Some, None, MatchResult};
+ghost use Rattle.apdu_codec.specs.Command.{IsCommand, apdu_of};
+ghost use Rattle.file_rows.specs.FileHead.{is_transparent};
+ghost use Rattle.file_rows.specs.declared.mode.Mode.{Mode};
+ghost use Rattle.uicc_channels.specs.CommandOutcome.{outcome_of};
+ghost use Rattle.uicc_channels.specs.CommandRow.{Follows, decided};
+ghost use Rattle.uicc_channels.specs.Session.{IsOpen, Suits};
+ghost use Rattle.uicc_tree.specs.Files.{IsLive, file_of, rows_of};
+ghost use Rattle.uicc_data.specs.Access.{AnswersFor};
+ghost use Rattle.uicc_data.specs.Binary.{read_binary_row, read_refusal};
+
+use crate::binary::{binary_place, rest_from};
+use crate::reference::{find_file, pointer_at, use_file};
+use apdu_codec::{Command, Sw, class_fits};
+use file_rows::{Kind, Mode};
+use uicc_channels::{Decided, Guard, Session, conclude, require, require_active};
+use uicc_tree::Tree;
+
+// As many bytes from the offset on as are wanted; 256 is all that there are, up to as many.
+fn read_from(body: &[u8], offset: u16, le: u16) -> Result<&[u8], Sw>
+    requires { le ≤ 256 }
+    ensures { MatchResult result
+        (λ bytes. (read_refusal body.now offset le ≡ None)
+        × (bytes.now ≡ take le (drop offset body.now)) × (length bytes.now ≤ 256))
+        (λ sw. read_refusal body.now offset le ≡ Some sw) }
+{
+    let left = rest_from(body, offset)?;
+    let wanted = usize::from(le);
+    if wanted > left.len() && le != 256 {
+        return Err(Sw::wrong_le(left.len() as u16));
+    }
+    Ok(&left[..wanted.min(left.len())])
+}
+
+/// READ BINARY (ETSI TS 102 221).
+pub fn read_binary<G: Guard>(
+    tree: &Tree,
+    guard: &G,
+    session: &Session,
+    command: &Command,
+    into: &mut Decided,
+)
+    requires spelled { IsCommand command.now }
+    requires open { IsOpen session.now command.now.channel }
+    requires suits { Suits session.now (rows_of tree.now) }
+    requires knows { (node : ℕ) → IsLive tree.now node → G.knows guard.now node }
+    ensures { (allowed : List ℕ → Mode → Bool)
+        → AnswersFor tree.now (λ node mode. G.answer guard.now node mode session.now) allowed
+        → outcome_of session.now into.new ≡ decided session.now
+        (read_binary_row (rows_of tree.now) allowed session.now (apdu_of command.now)) }
+{
+    let outcome = try_read_binary(tree, guard, session, command, into);
+    conclude(into, outcome);
+}
+
+fn try_read_binary<G: Guard>(
+    tree: &Tree,
+    guard: &G,
+    session: &Session,
+    command: &Command,
+    into: &mut Decided,
+) -> Result<(), Sw>
+    requires spelled { IsCommand command.now }
+    requires open { IsOpen session.now command.now.channel }
+    requires suits { Suits session.now (rows_of tree.now) }
+    requires knows { (node : ℕ) → IsLive tree.now node → G.knows guard.now node }
+    ensures { (allowed : List ℕ → Mode → Bool)
+        → AnswersFor tree.now (λ node mode. G.answer guard.now node mode session.now) allowed
+        → Follows session.now
+        (read_binary_row (rows_of tree.now) allowed session.now (apdu_of command.now))
+        into.new result }
+{
+    require(class_fits(command.ins, command.class), Sw::WRONG_CLASS)?;
+    let Some(place) = binary_place(command.p1, command.p2) else {
+        return Err(Sw::WRONG_P1_P2);
+    };
+    let (true, Some(le)) = (command.body.is_empty(), command.le) else {
+        return Err(Sw::WRONG_LENGTH);
+    };
+    let chan = session.open_channel(command.channel);
+    let node = find_file(tree, chan, place.file)?;
+    let head = tree.head(node);
+    require(head.kind == Kind::Transparent, Sw::INCOMPATIBLE_STRUCTURE)?;
+    require_active(head.life)?;
+    let allowed = guard.allows(node, Mode::Bit(0x01), session);
+    require(allowed, Sw::SECURITY_NOT_SATISFIED)?;
+    let bytes = read_from(tree.bytes(node), place.offset, le)?;
+    into.set_status(Sw::OK);
+    into.answer.set(bytes, Sw::OK);
+    let pointer = pointer_at(chan, place.file);
+    use_file(
+        session,
+        command.channel,
+        &head.path,
+        pointer,
+        &mut into.session,
+    );
+    Ok(())
+}

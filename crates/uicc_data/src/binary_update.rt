@@ -1,0 +1,96 @@
+ghost use Rattle.std.specs.Prelude.{◌≡◌, ◌+◌, ◌-◌, ◌<◌, ◌≤◌, ◌==◌, nat_le, nat_lt, ℕ, Bool, List, length, drop, Some, None, MatchResult};
+ghost use Rattle.apdu_codec.specs.Command.{IsCommand, apdu_of};
+ghost use Rattle.file_rows.specs.FileHead.{is_transparent};
+ghost use Rattle.file_rows.specs.declared.mode.Mode.{Mode};
+ghost use Rattle.uicc_channels.specs.CommandOutcome.{outcome_of};
+ghost use Rattle.uicc_channels.specs.CommandRow.{Follows, decided};
+ghost use Rattle.uicc_channels.specs.Session.{IsOpen, Suits};
+ghost use Rattle.uicc_tree.specs.Files.{IsLive, file_of, rows_of};
+ghost use Rattle.uicc_data.specs.Access.{AnswersFor};
+ghost use Rattle.uicc_data.specs.Binary.{update_binary_row, write_refusal};
+
+use crate::binary::{binary_place, rest_from};
+use crate::reference::{find_file, pointer_at, use_file};
+use apdu_codec::{Command, Sw, class_fits};
+use file_rows::{Change, Kind, Mode, Piece};
+use uicc_channels::{Decided, Guard, Session, conclude, require, require_active};
+use uicc_tree::Tree;
+
+// Whether so many bytes can be written from the offset on.
+fn require_inside(body: &[u8], offset: u16, bytes: &[u8]) -> Result<(), Sw>
+    requires { length bytes.now ≤ 255 }
+    ensures { MatchResult result
+        (λ _. write_refusal body.now offset bytes.now ≡ None)
+        (λ sw. write_refusal body.now offset bytes.now ≡ Some sw) }
+{
+    let left = rest_from(body, offset)?;
+    require(bytes.len() <= left.len(), Sw::WRONG_LENGTH)
+}
+
+/// UPDATE BINARY (ETSI TS 102 221).
+pub fn update_binary<G: Guard>(
+    tree: &Tree,
+    guard: &G,
+    session: &Session,
+    command: &Command,
+    into: &mut Decided,
+)
+    requires spelled { IsCommand command.now }
+    requires open { IsOpen session.now command.now.channel }
+    requires suits { Suits session.now (rows_of tree.now) }
+    requires knows { (node : ℕ) → IsLive tree.now node → G.knows guard.now node }
+    ensures { (allowed : List ℕ → Mode → Bool)
+        → AnswersFor tree.now (λ node mode. G.answer guard.now node mode session.now) allowed
+        → outcome_of session.now into.new ≡ decided session.now
+        (update_binary_row (rows_of tree.now) allowed session.now (apdu_of command.now)) }
+{
+    let outcome = try_update_binary(tree, guard, session, command, into);
+    conclude(into, outcome);
+}
+
+fn try_update_binary<G: Guard>(
+    tree: &Tree,
+    guard: &G,
+    session: &Session,
+    command: &Command,
+    into: &mut Decided,
+) -> Result<(), Sw>
+    requires spelled { IsCommand command.now }
+    requires open { IsOpen session.now command.now.channel }
+    requires suits { Suits session.now (rows_of tree.now) }
+    requires knows { (node : ℕ) → IsLive tree.now node → G.knows guard.now node }
+    ensures { (allowed : List ℕ → Mode → Bool)
+        → AnswersFor tree.now (λ node mode. G.answer guard.now node mode session.now) allowed
+        → Follows session.now
+        (update_binary_row (rows_of tree.now) allowed session.now (apdu_of command.now))
+        into.new result }
+{
+    require(class_fits(command.ins, command.class), Sw::WRONG_CLASS)?;
+    let Some(place) = binary_place(command.p1, command.p2) else {
+        return Err(Sw::WRONG_P1_P2);
+    };
+    require(!command.body.is_empty(), Sw::WRONG_LENGTH)?;
+    let chan = session.open_channel(command.channel);
+    let node = find_file(tree, chan, place.file)?;
+    let head = tree.head(node);
+    require(head.kind == Kind::Transparent, Sw::INCOMPATIBLE_STRUCTURE)?;
+    require_active(head.life)?;
+    let allowed = guard.allows(node, Mode::Bit(0x02), session);
+    require(allowed, Sw::SECURITY_NOT_SATISFIED)?;
+    require_inside(tree.bytes(node), place.offset, command.body)?;
+    into.set_status(Sw::OK);
+    let pointer = pointer_at(chan, place.file);
+    use_file(
+        session,
+        command.channel,
+        &head.path,
+        pointer,
+        &mut into.session,
+    );
+    into.change = Some(Change::WriteRange {
+        path: head.path.copy(),
+        offset: place.offset,
+        bytes: Piece::from_slice(command.body),
+    });
+    Ok(())
+}

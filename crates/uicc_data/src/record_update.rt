@@ -1,0 +1,139 @@
+ghost use Rattle.std.specs.Prelude.{◌≡◌, ◌==◌, ◌&&◌, ◌||◌, ℕ, Bool, List, length, Some, None, IsTrue};
+ghost use Rattle.apdu_codec.specs.Command.{IsCommand, apdu_of};
+ghost use Rattle.file_rows.specs.FileHead.{is_linear};
+ghost use Rattle.file_rows.specs.declared.mode.Mode.{Mode};
+ghost use Rattle.uicc_channels.specs.CommandOutcome.{outcome_of};
+ghost use Rattle.uicc_channels.specs.CommandRow.{Follows, decided};
+ghost use Rattle.uicc_channels.specs.Session.{IsOpen, Suits};
+ghost use Rattle.uicc_tree.specs.Change.{AreRows};
+ghost use Rattle.uicc_tree.specs.Files.{IsLive, file_of, rows_of};
+ghost use Rattle.uicc_data.specs.Access.{AnswersFor};
+ghost use Rattle.uicc_data.specs.Record.{is_previous, update_record_row, write_place};
+ghost use Rattle.uicc_data.specs.RecordKind.{has_records, is_cyclic};
+ghost use Rattle.uicc_data.specs.RecordWalk.{IsPointerIn};
+
+use crate::reference::{find_file, pointer_at, use_file};
+use crate::walk::{RecordName, find_record, is_cyclic, pointer_after, record_place};
+use apdu_codec::{Command, Sw, class_fits};
+use file_rows::{Change, Kind, Mode, Piece};
+use uicc_channels::{Decided, Guard, Session, conclude, require, require_active};
+use uicc_tree::Tree;
+
+/// Where UPDATE RECORD writes: the number of a record, or 0 for a new record 1 of a cyclic file,
+/// and where the record pointer is afterwards.
+#[derive(Clone, Copy, Debug, PartialEq, Eq)]
+pub struct WritePlace {
+    pub number: u8,
+    pub pointer: u8,
+}
+
+// Whether UPDATE RECORD works on files of this kind: a cyclic file takes previous alone.
+fn takes_update(kind: Kind, name: RecordName) -> bool
+    ensures { result ≡ (is_linear kind || (is_cyclic kind && is_previous name)) }
+{
+    match kind {
+        Kind::Linear => true,
+        Kind::Cyclic => name == RecordName::Previous,
+        _ => false,
+    }
+}
+
+// Where UPDATE RECORD writes, in a file with records.
+fn find_write_place(tree: &Tree, node: u32, pointer: u8, name: RecordName) -> Option<WritePlace>
+    requires files { AreRows (rows_of tree.now) }
+    requires live { IsLive tree.now node }
+    requires kind { IsTrue (has_records (file_of tree.now node).head.kind) }
+    requires pointer { IsPointerIn (file_of tree.now node).head pointer }
+    ensures { result ≡ write_place (file_of tree.now node).head pointer name }
+{
+    if is_cyclic(tree.head(node).kind) {
+        return Some(WritePlace {
+            number: 0,
+            pointer: 1,
+        });
+    }
+    let number = find_record(tree, node, pointer, name)?;
+    Some(WritePlace {
+        number,
+        pointer: pointer_after(pointer, name, number),
+    })
+}
+
+/// UPDATE RECORD (ETSI TS 102 221).
+pub fn update_record<G: Guard>(
+    tree: &Tree,
+    guard: &G,
+    session: &Session,
+    command: &Command,
+    into: &mut Decided,
+)
+    requires files { AreRows (rows_of tree.now) }
+    requires spelled { IsCommand command.now }
+    requires open { IsOpen session.now command.now.channel }
+    requires suits { Suits session.now (rows_of tree.now) }
+    requires knows { (node : ℕ) → IsLive tree.now node → G.knows guard.now node }
+    ensures { (allowed : List ℕ → Mode → Bool)
+        → AnswersFor tree.now (λ node mode. G.answer guard.now node mode session.now) allowed
+        → outcome_of session.now into.new ≡ decided session.now
+        (update_record_row (rows_of tree.now) allowed session.now (apdu_of command.now)) }
+{
+    let outcome = try_update_record(tree, guard, session, command, into);
+    conclude(into, outcome);
+}
+
+fn try_update_record<G: Guard>(
+    tree: &Tree,
+    guard: &G,
+    session: &Session,
+    command: &Command,
+    into: &mut Decided,
+) -> Result<(), Sw>
+    requires files { AreRows (rows_of tree.now) }
+    requires spelled { IsCommand command.now }
+    requires open { IsOpen session.now command.now.channel }
+    requires suits { Suits session.now (rows_of tree.now) }
+    requires knows { (node : ℕ) → IsLive tree.now node → G.knows guard.now node }
+    ensures { (allowed : List ℕ → Mode → Bool)
+        → AnswersFor tree.now (λ node mode. G.answer guard.now node mode session.now) allowed
+        → Follows session.now
+        (update_record_row (rows_of tree.now) allowed session.now (apdu_of command.now))
+        into.new result }
+{
+    require(class_fits(command.ins, command.class), Sw::WRONG_CLASS)?;
+    let Some(place) = record_place(command.p1, command.p2) else {
+        return Err(Sw::WRONG_P1_P2);
+    };
+    require(!command.body.is_empty(), Sw::WRONG_LENGTH)?;
+    let chan = session.open_channel(command.channel);
+    let node = find_file(tree, chan, place.file)?;
+    let head = tree.head(node);
+    require(
+        takes_update(head.kind, place.name),
+        Sw::INCOMPATIBLE_STRUCTURE,
+    )?;
+    require_active(head.life)?;
+    let allowed = guard.allows(node, Mode::Bit(0x02), session);
+    require(allowed, Sw::SECURITY_NOT_SATISFIED)?;
+    let pointer = pointer_at(chan, place.file);
+    let Some(written) = find_write_place(tree, node, pointer, place.name) else {
+        return Err(Sw::RECORD_NOT_FOUND);
+    };
+    require(
+        command.body.len() == usize::from(head.record_len),
+        Sw::WRONG_LENGTH,
+    )?;
+    into.set_status(Sw::OK);
+    use_file(
+        session,
+        command.channel,
+        &head.path,
+        written.pointer,
+        &mut into.session,
+    );
+    into.change = Some(Change::WriteRecord {
+        path: head.path.copy(),
+        number: written.number,
+        bytes: Piece::from_slice(command.body),
+    });
+    Ok(())
+}
