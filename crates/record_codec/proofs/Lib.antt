@@ -1,7 +1,12 @@
 pub mod AgainLemmas
+pub mod BehindLemmas
 pub mod FieldLemmas
+pub mod FitLemmas
+pub mod GrowLemmas
+pub mod HeldLemmas
 pub mod LocalLemmas
 pub mod LoopLemmas
+pub mod PortLemmas
 pub mod RecordTakes
 pub mod SizeLemmas
 pub mod TakesLemmas

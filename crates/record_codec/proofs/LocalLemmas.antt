@@ -1,6 +1,7 @@
 -- What a record leaves alone.
 use Rattle.std.proofs.Common.{◌≡◌, ℕ, Bool, true, false, cond, not, nat_eq, List, [], ◌∷◌, ◌++◌, length, map, filter, Option, Some, None, refl, sym, ◌∙◌, ap, arith, eqb-true}
 use Rattle.file_rows.specs.declared.content.Content.{Content}
+use Rattle.record_codec.proofs.HeldLemmas.{named_number}
 use Rattle.record_codec.specs.Apply.{apply}
 use Rattle.record_codec.specs.Content.{contents_with}
 use Rattle.record_codec.specs.Gone.{contents_without, is_among}
@@ -55,19 +56,13 @@ module _ (number : ℕ) where
       ]
       in step (nat_eq head.number number) refl
 
-  its_number : (profile : ℕ) (nickname : List ℕ) (head : ProfileHead) → (named profile nickname head).number ≡ head.number
-  its_number profile nickname head =
-      let step : (b : Bool) → (cond b (record head { nickname = nickname }) head).number ≡ head.number
-      = λ b. elim b as (λ b. (cond b (record head { nickname = nickname }) head).number ≡ head.number) [ true ↦ refl | false ↦ refl ]
-      in step (nat_eq head.number profile)
-
   -- a nickname set
   name : (profile : ℕ) (nickname : List ℕ) (heads : List ProfileHead) (contents : List Content)
       → content_at number (map (named profile nickname) heads) contents ≡ content_at number heads contents
   name profile nickname [] contents = refl
   name profile nickname (head ∷ heads) [] = refl
   name profile nickname (head ∷ heads) (content ∷ contents) =
-      ap (λ (n : ℕ). cond (nat_eq n number) (Some content) (content_at number (map (named profile nickname) heads) contents)) (its_number profile nickname head)
+      ap (λ (n : ℕ). cond (nat_eq n number) (Some content) (content_at number (map (named profile nickname) heads) contents)) (named_number profile nickname head)
       ∙ ap (λ (rest : Option Content). cond (nat_eq head.number number) (Some content) rest) (name profile nickname heads contents)
 
   -- others gone

@@ -27,7 +27,7 @@ bodies content valid = ⊎_elim
     valid.system
 
 pub sizes_of : (durable : Durable) (entry : Record) → FitsCard durable entry → HasSizes entry
-sizes_of durable (records.PutCard how ports eid next_number next_note notes) fits = omega (arith, fits.after.notes.few)
+sizes_of durable (records.PutCard how ports eid next_number next_note notes) fits = omega (arith, fits.after.heads.notes.few)
 sizes_of durable (records.PutProfile installation profile port) fits =
     let valid : IsValid profile.content = last IsValid durable.contents profile.content fits.after.contents.valid in
     (omega (arith, valid.quota, few profile.content.rows), omega (arith, valid.few_pins), bodies profile.content valid)

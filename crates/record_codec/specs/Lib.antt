@@ -1,4 +1,5 @@
 pub mod Apply
+pub mod Behind
 pub mod Bind
 pub mod Content
 pub mod Fields
@@ -16,5 +17,6 @@ pub mod PutProfile
 pub mod Reading
 pub mod Sizes
 pub mod Spelling
+pub mod Takes
 pub mod Unbind
 pub mod Window

@@ -2,10 +2,12 @@ ghost use Rattle.std.specs.Prelude.{◌≡◌, ◌≢◌, ◌<◌, ◌↔◌, []
 ghost use Rattle.file_rows.specs.declared.change.Change.{Change};
 ghost use Rattle.record_codec.specs.Apply.{apply};
 ghost use Rattle.record_codec.specs.FitsCard.{FitsCard};
+ghost use Rattle.record_codec.specs.IsDurable.{IsDurable};
 ghost use Rattle.record_codec.specs.Reading.{record_read};
 ghost use Rattle.record_codec.specs.Sizes.{Codes, HasSizes};
 ghost use Rattle.record_codec.specs.Heads.{held_content, head_of};
 ghost use Rattle.record_codec.specs.Local.{TouchesContent};
+ghost use Rattle.record_codec.specs.Takes.{Takes};
 ghost use Rattle.record_codec.specs.declared.durable.Durable.{Durable};
 ghost use Rattle.record_codec.specs.declared.record.Record.{Record};
 
@@ -38,4 +40,11 @@ pub fn codings_are_unique()
 /// A record that fits what a card holds has room in its coding, so that it can be put.
 pub fn fitting_records_have_sizes()
     ensures { (durable : Durable) (entry : Record) → FitsCard durable entry → HasSizes entry }
+{}
+
+/// Just when a record fits what a card holds, by its kind. A record of what goes, of a name or of a
+/// content leaves each profile, port and content as a card may hold it.
+pub fn records_fit_by_kind()
+    ensures { (durable : Durable) (entry : Record) → IsDurable durable
+        → FitsCard durable entry ↔ Takes durable entry }
 {}

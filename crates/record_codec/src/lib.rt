@@ -1,9 +1,12 @@
 //! What a card holds, and the records of its changes: their effect and their coding.
 #![tactic(auto)]
 
+mod counts;
 mod durable;
 mod fault;
+mod fits;
 mod laws;
+mod notes_fit;
 mod profile;
 mod put;
 mod put_change;
@@ -11,6 +14,7 @@ mod read_fields;
 mod read_files;
 mod reading;
 mod record;
+mod takes;
 mod window;
 mod writing;
 
@@ -18,6 +22,7 @@ pub use durable::{Durable, Heads, ProfileList};
 pub use fault::RecordFault;
 pub use laws::{
     codings_are_unique, fitting_records_have_sizes, reading_is_of_codings, records_are_local,
+    records_fit_by_kind,
 };
 pub use profile::{BoxedProfile, Label, NoteTarget, Profile, ProfileHead, Provider, Targets};
 pub use reading::read_record;
