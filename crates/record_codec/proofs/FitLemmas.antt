@@ -30,15 +30,9 @@ use Rattle.record_codec.specs.declared.profile.Profile.{Profile}
 use Rattle.record_codec.specs.declared.profile.ProfileHead.{ProfileHead}
 use Rattle.record_codec.specs.declared.record.Record.{Record}
 use Rattle.record_codec.specs.declared.record.Record.TheVariants as records
-use Rattle.record_codec.proofs.GrowLemmas.{Grows, grows_numbers, grows_of, grows_then, grows_where, head_is, notes_fit, notes_less}
+use Rattle.record_codec.proofs.GrowLemmas.{Grows, displaced_is, grows_numbers, grows_of, grows_then, grows_where, head_is, notes_fit, notes_less}
 use Rattle.record_codec.proofs.HeldLemmas.{each_not, left_are, left_held, named_are, named_held, nickname_few, pairs_left, pairs_with, valid_left, valid_with}
 use Rattle.record_codec.proofs.PortLemmas.{bound_are, each_count, each_rule, none_stands, set_there, unbound_are, were_on}
-
--- what is found is a head, where there is a number to look for
-displaced_is : (displaced : Option ℕ) (profiles : List ProfileHead) → AllByRecursion IsHead profiles
-    → IfSome (option_and_then (λ number. head_of number profiles) displaced) IsHead
-displaced_is None profiles each = tt
-displaced_is (Some number) profiles each = head_is number profiles each
 
 -- a new card
 fits_card : (durable : Durable) (mode : PortMode) (ports : ℕ) (eid : List ℕ) (next_number next_note : ℕ) (notes : List Note)

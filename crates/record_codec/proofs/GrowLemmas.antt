@@ -2,7 +2,7 @@
 use Rattle.std.proofs.Common.{◌≡◌, ◌↔◌, ◌⊎◌, ℕ, suc, ◌+◌, ◌≤◌, Bool, true, false, cond, not, nat_eq, List, [], ◌∷◌, ◌++◌, length, filter, Option, Some, None, find, refl, sym, ◌∙◌, subst, inl, inr, ⊎_elim, arith}
 use Rattle.std.proofs.lemmas.List.{length_push}
 use Rattle.std.specs.List.{AllByRecursion}
-use Rattle.std.specs.Prelude.{IfSome}
+use Rattle.std.specs.Prelude.{IfSome, option_and_then}
 use Rattle.notify_list.specs.Notes.{HasNoteRoom, NoteList, with_note, without}
 use Rattle.notify_list.specs.declared.note.Note.{Note}
 use Rattle.notify_list.specs.declared.note.Operation.{Operation}
@@ -115,6 +115,12 @@ found_each P test (x ∷ xs) each =
 
 pub head_is : (number : ℕ) (profiles : List ProfileHead) → AllByRecursion IsHead profiles → IfSome (head_of number profiles) IsHead
 head_is number profiles each = found_each IsHead (λ head. nat_eq head.number number) profiles each
+
+-- what is found is a head, where there is a number to look for
+pub displaced_is : (displaced : Option ℕ) (profiles : List ProfileHead) → AllByRecursion IsHead profiles
+    → IfSome (option_and_then (λ number. head_of number profiles) displaced) IsHead
+displaced_is None profiles each = tt
+displaced_is (Some number) profiles each = head_is number profiles each
 
 pub grows_numbers : (operation : Operation) (numbers : List ℕ) (profiles : List ProfileHead) (notes : NoteList) → AllByRecursion IsHead profiles
     → Grows (count_of_each operation numbers profiles) notes (noted_each operation numbers profiles notes)

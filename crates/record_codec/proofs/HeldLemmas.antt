@@ -25,6 +25,13 @@ HasOther one other = one.number ≢ other.number
 abbrev HasOtherIccid : ProfileHead → ProfileHead → Type 0
 HasOtherIccid one other = one.iccid ≢ other.iccid
 
+-- different numbers are told apart
+pub differ_is : (one other : ℕ) → one ≢ other → nat_eq one other ≡ false
+differ_is one other apart =
+    let step : (b : Bool) → nat_eq one other ≡ b → b ≡ false
+    = λ b. elim b as (λ b. nat_eq one other ≡ b → b ≡ false) [ true ↦ λ is. absurd (apart (eqb-true one other is)) | false ↦ λ is. refl ]
+    in step (nat_eq one other) refl
+
 -- where none is so, each isn't
 pub each_not : {X : Type 0} (P : X → Type 0) (xs : List X) → (Any P xs → ⊥) → AllByRecursion (λ x. P x → ⊥) xs
 each_not P [] none = tt
@@ -205,12 +212,6 @@ later_other head number place [] each at e = at
 later_other head number zero (other ∷ heads) each at e = each.0 (e ∙ sym at)
 later_other head number (suc place) (other ∷ heads) each at e = later_other head number place heads each.1 at e
 
-apart_is : (one other : ℕ) → one ≢ other → nat_eq one other ≡ false
-apart_is one other apart =
-    let step : (b : Bool) → nat_eq one other ≡ b → b ≡ false
-    = λ b. elim b as (λ b. nat_eq one other ≡ b → b ≡ false) [ true ↦ λ is. absurd (apart (eqb-true one other is)) | false ↦ λ is. refl ]
-    in step (nat_eq one other) refl
-
 -- the content of a profile stands at its place
 pub content_there : (number place : ℕ) (profiles : List ProfileHead) (contents : List Content) → length contents ≡ length profiles → EachTwo HasOther profiles
     → IsSomeAnd (slice_get profiles place) (λ head. head.number ≡ number) → content_at number profiles contents ≡ slice_get contents place
@@ -218,7 +219,7 @@ content_there number place [] contents pairs differ at = absurd at
 content_there number place (head ∷ heads) [] pairs differ at = absurd (omega (arith, pairs))
 content_there number zero (head ∷ heads) (content ∷ contents) pairs differ at = rw (eq-eqb head.number number at) refl
 content_there number (suc place) (head ∷ heads) (content ∷ contents) pairs differ at =
-    rw (apart_is head.number number (later_other head number place heads differ.0 at)) (content_there number place heads contents (omega (arith, pairs)) differ.1 at)
+    rw (differ_is head.number number (later_other head number place heads differ.0 at)) (content_there number place heads contents (omega (arith, pairs)) differ.1 at)
 
 pub place_within : (number place : ℕ) (profiles : List ProfileHead) → IsSomeAnd (slice_get profiles place) (λ head. head.number ≡ number) → place < length profiles
 place_within number place [] at = absurd at

@@ -1,16 +1,19 @@
 -- Profiles bound to a port and taken from theirs.
-use Rattle.std.proofs.Common.{◌≡◌, ◌≢◌, ◌⊎◌, ◌↔◌, ◌<◌, ◌+◌, ℕ, zero, suc, Bool, true, false, nat_eq, List, [], ◌∷◌, length, drop, get_or, set, replicate, Option, Some, None, refl, sym, ◌∙◌, ap, subst, inl, inr, ⊎_elim, eqb-true, eq-eqb}
-use Rattle.std.specs.Prelude.{slice_get}
+use Rattle.std.proofs.Common.{◌≡◌, ◌≢◌, ◌⊎◌, ◌↔◌, ◌<◌, ◌+◌, ℕ, zero, suc, Bool, true, false, nat_eq, List, [], ◌∷◌, length, drop, get_or, set, replicate, Option, Some, None, refl, sym, ◌∙◌, ap, subst, inl, inr, ⊎_elim, arith, eqb-true, eq-eqb}
+use Rattle.std.specs.Prelude.{IfSome, slice_get}
 use Rattle.std.proofs.lemmas.Bool.{false≢true}
 use Rattle.std.proofs.lemmas.List.{length-set}
+use Rattle.std.proofs.lemmas.Option.{slice_get_within}
 use Rattle.file_rows.proofs.EachLemmas.{drop_item}
-use Rattle.port_table.specs.Ports.{HasProfiles, KeepsPortRule, StandsNowhere, StandsOn, bound, unbound}
+use Rattle.port_table.specs.Ports.{HasProfiles, KeepsPortRule, MayBind, StandsNowhere, StandsOn, bound, unbound}
 use Rattle.port_table.specs.declared.port_mode.PortMode.{PortMode}
 use Rattle.port_table.specs.declared.ports.Ports.{Ports}
 use Rattle.port_table.proofs.PortLemmas.{nowhere, others, unbound_keeps}
 use Rattle.record_codec.specs.Gone.{is_among, unbound_each}
 use Rattle.record_codec.specs.Heads.{IsHeld}
-use Rattle.record_codec.specs.IsDurable.{ArePorts}
+use Rattle.record_codec.specs.IsDurable.{AreHeads, ArePorts}
+use Rattle.record_codec.specs.Takes.{IsBinding, IsNewProfile}
+use Rattle.record_codec.specs.declared.durable.Heads.{Heads}
 use Rattle.record_codec.specs.declared.profile.ProfileHead.{ProfileHead}
 
 -- what a list has where another element was put
@@ -126,3 +129,23 @@ stands_more profile on i place within at left other =
         → (port : ℕ) × (slice_get rest port ≡ Some (Some profile))
     later_place rest zero e = absurd (other (cc))
     later_place rest (suc port) e = (port, e)
+
+-- one more profile may be bound to its port
+pub may_bind : (heads : Heads) (installation : Bool) (head : ProfileHead) (port : Option ℕ) → AreHeads heads → IsNewProfile heads installation head port
+    → IfSome port (λ port. MayBind heads.ports head.number port)
+may_bind heads installation head None are new = tt
+may_bind heads installation head (Some port) are new = record {
+  count = are.ports.rule.count;
+  below = omega (arith, slice_get_within heads.ports.on port None new.free.free, are.ports.rule.count);
+  place = new.free.place;
+  nowhere = λ other stands. new.new (are.ports.held head.number other stands);
+}
+
+-- a profile that stands on no port may be bound to one
+pub may_bind_to : (heads : Heads) (profile port : ℕ) (displaced : Option ℕ) → AreHeads heads → IsBinding heads profile port displaced → MayBind heads.ports profile port
+may_bind_to heads profile port displaced are binding = record {
+  count = are.ports.rule.count;
+  below = omega (arith, slice_get_within heads.ports.on port displaced binding.there, are.ports.rule.count);
+  place = binding.place;
+  nowhere = binding.nowhere;
+}

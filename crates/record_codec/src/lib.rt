@@ -3,10 +3,12 @@
 
 mod counts;
 mod durable;
+mod effect;
 mod fault;
 mod fits;
 mod laws;
 mod notes_fit;
+mod noting;
 mod profile;
 mod put;
 mod put_change;
