@@ -8,6 +8,7 @@ pub mod LocalLemmas
 pub mod LoopLemmas
 pub mod PortLemmas
 pub mod RecordTakes
+pub mod RowLemmas
 pub mod SizeLemmas
 pub mod TakesLemmas
 pub mod WindowLemmas

@@ -16,7 +16,7 @@ last P [] x each = each.0
 last P (y ∷ xs) x each = last P xs x each.1
 
 -- each file takes at least 32 bytes of the quota
-few : (rows : List FileRow) → 32 * length rows ≤ use_of rows
+pub few : (rows : List FileRow) → 32 * length rows ≤ use_of rows
 few [] = omega arith
 few (row ∷ rows) = omega (arith, few rows, sum_by-cons (λ (r : FileRow). length r.body + 32) row rows)
 

@@ -15,6 +15,7 @@ pub mod Noted
 pub mod PutCard
 pub mod PutProfile
 pub mod Reading
+pub mod Room
 pub mod Sizes
 pub mod Spelling
 pub mod Takes

@@ -16,6 +16,8 @@ mod read_fields;
 mod read_files;
 mod reading;
 mod record;
+mod room;
+mod rows;
 mod takes;
 mod window;
 mod writing;
@@ -29,6 +31,7 @@ pub use laws::{
 pub use profile::{BoxedProfile, Label, NoteTarget, Profile, ProfileHead, Provider, Targets};
 pub use reading::read_record;
 pub use record::{Numbers, Record};
+pub use room::Room;
 pub use std::alloc::AllocError as NoMemory;
 pub use writing::{put_record, record_len};
 
