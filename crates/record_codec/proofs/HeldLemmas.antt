@@ -1,5 +1,5 @@
 -- The profiles of a card and their contents after a record.
-use Rattle.std.proofs.Common.{◌≡◌, ◌≢◌, ℕ, zero, suc, ◌+◌, ◌<◌, ◌≤◌, Bool, true, false, cond, not, nat_eq, List, [], ◌∷◌, ◌++◌, length, map, filter, Option, Some, None, refl, sym, ◌∙◌, ap, subst, ⊎_elim, arith, eqb-true, eq-eqb}
+use Rattle.std.proofs.Common.{◌≡◌, ◌≢◌, ℕ, zero, suc, ◌+◌, ◌<◌, ◌≤◌, Bool, true, false, cond, not, nat_eq, List, [], ◌∷◌, ◌++◌, length, map, filter, set, Option, Some, None, refl, sym, ◌∙◌, ap, subst, ⊎_elim, arith, eqb-true, eq-eqb}
 use Rattle.std.proofs.lemmas.Bool.{false≢true}
 use Rattle.std.proofs.lemmas.List.{length-map}
 use Rattle.std.specs.List.{Any, AllByRecursion}
@@ -238,3 +238,44 @@ content_valid number (head ∷ heads) (its ∷ contents) content valid e =
       | false ↦ λ e. content_valid number heads contents content valid.1 e
     ]
     in step (nat_eq head.number number) e
+
+-- a change of the content of a profile changes what stands at its place
+pub contents_there : (number : ℕ) (change : Content → Content) (place : ℕ) (profiles : List ProfileHead) (contents : List Content) (content : Content)
+    → length contents ≡ length profiles → EachTwo HasOther profiles → IsSomeAnd (slice_get profiles place) (λ head. head.number ≡ number)
+    → slice_get contents place ≡ Some content → contents_with number change profiles contents ≡ set contents place (change content)
+contents_there number change place [] contents content pairs differ at is = absurd at
+contents_there number change place (head ∷ heads) [] content pairs differ at is = absurd (omega (arith, pairs))
+contents_there number change zero (head ∷ heads) (its ∷ contents) content pairs differ at is =
+    let same : its ≡ content = cc in
+    rw (eq-eqb head.number number at)
+    (ap (λ (c : Content). change c ∷ contents_with number change heads contents) same
+    ∙ ap (λ (rest : List Content). change content ∷ rest)
+    (with_none number change heads contents (omega (arith, pairs)) (others_differ head number heads at differ.0)))
+contents_there number change (suc place) (head ∷ heads) (its ∷ contents) content pairs differ at is =
+    rw (differ_is head.number number (later_other head number place heads differ.0 at))
+    (ap (λ (rest : List Content). its ∷ rest) (contents_there number change place heads contents content (omega (arith, pairs)) differ.1 at is))
+
+-- the contents left of one profile more
+pub without_more : (numbers : List ℕ) (heads : List ProfileHead) (contents : List Content) (head : ProfileHead) (content : Content) → length contents ≡ length heads
+    → contents_without numbers (heads ++ head ∷ []) (contents ++ content ∷ [])
+    ≡ contents_without numbers heads contents ++ cond (is_among numbers head.number) [] (content ∷ [])
+without_more numbers [] [] head content pairs = refl
+without_more numbers [] (its ∷ contents) head content pairs = absurd (omega (arith, pairs))
+without_more numbers (one ∷ heads) [] head content pairs = absurd (omega (arith, pairs))
+without_more numbers (one ∷ heads) (its ∷ contents) head content pairs =
+    let rest = without_more numbers heads contents head content (omega (arith, pairs)) in
+    let last : List Content = cond (is_among numbers head.number) [] (content ∷ []) in
+    let left : List Content = contents_without numbers heads contents in
+    let all : List Content = contents_without numbers (heads ++ head ∷ []) (contents ++ content ∷ []) in
+    let step : (b : Bool) → cond b all (its ∷ all) ≡ cond b left (its ∷ left) ++ last
+    = λ b. elim b as (λ b. cond b all (its ∷ all) ≡ cond b left (its ∷ left) ++ last) [
+      | true ↦ rest
+      | false ↦ ap (λ (cs : List Content). its ∷ cs) rest
+    ]
+    in step (is_among numbers one.number)
+
+-- what is said of a content in parts
+pub said_of : (o : Option Content) (P Q : Content → Type 0) → ((content : Content) → o ≡ Some content → IsValid content) → IsSomeAnd o P → IsSomeAnd o Q
+    → IsSomeAnd o (λ content. IsValid content × P content × Q content)
+said_of None P Q valid p q = p
+said_of (Some content) P Q valid p q = (valid content refl, p, q)

@@ -1,5 +1,6 @@
 pub mod AgainLemmas
 pub mod BehindLemmas
+pub mod DropLemmas
 pub mod FieldLemmas
 pub mod FitLemmas
 pub mod GrowLemmas

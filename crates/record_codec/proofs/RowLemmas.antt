@@ -1,15 +1,23 @@
 -- The file of a path among others.
-use Rattle.std.proofs.Common.{◌≡◌, ◌≢◌, ℕ, zero, suc, ◌<◌, Bool, true, false, cond, List, [], ◌∷◌, length, set, Option, Some, None, refl, sym, ◌∙◌, ap, subst, ⊎_elim, arith}
+use Rattle.std.proofs.Common.{◌≡◌, ◌≢◌, ℕ, zero, suc, ◌+◌, ◌*◌, ◌<◌, ◌≤◌, Bool, true, false, cond, List, [], ◌∷◌, length, set, Option, Some, None, refl, sym, ◌∙◌, ap, subst, ⊎_elim, arith}
 use Rattle.std.specs.Prelude.{IsSomeAnd, slice_get}
 use Rattle.std.specs.List.{AllByRecursion}
 use Rattle.plain_lists.specs.EachTwo.{EachTwo}
-use Rattle.file_rows.specs.Change.{with_file}
+use Rattle.file_rows.specs.Change.{Fits, IsRecordFor, with_file}
 use Rattle.file_rows.specs.Content.{IsValid, file_at, heads_of}
+use Rattle.file_rows.specs.FileHead.{HasForm, HoldsRecords, IsFile}
 use Rattle.file_rows.specs.Path.{same_path}
+use Rattle.file_rows.specs.declared.change.Change.TheVariants.{WriteRecord}
 use Rattle.file_rows.specs.declared.content.Content.{Content}
 use Rattle.file_rows.specs.declared.head.FileHead.{FileHead}
+use Rattle.file_rows.specs.declared.head.Kind.{Kind}
+use Rattle.file_rows.specs.declared.head.Kind.TheVariants.{Cyclic}
 use Rattle.file_rows.specs.declared.row.FileRow.{FileRow}
 use Rattle.file_rows.proofs.ChangeLemmas.{same_path-other, same_path-refl}
+use Rattle.file_rows.proofs.EachLemmas.{each_of_map}
+use Rattle.file_rows.proofs.EditLemmas.{is_some_and, some_is, system_of}
+use Rattle.file_rows.proofs.FindLemmas.{found_has}
+use Rattle.record_codec.specs.InPlace.{HasPlaceFor}
 
 abbrev HasOtherPath : FileHead → FileHead → Type 0
 HasOtherPath one other = one.path ≢ other.path
@@ -71,3 +79,40 @@ paths_of content valid = ⊎_elim
     (λ empty. subst (λ (rows : List FileRow). EachTwo HasOtherPath (heads_of rows)) (sym empty.rows) tt)
     (λ system. system.files.paths)
     valid.system
+
+times : (before len : ℕ) → suc before * len ≡ before * len + len
+times before len = grind arith
+
+one_at_least : (count len : ℕ) → 1 ≤ count → len ≤ count * len
+one_at_least zero len least = absurd (omega (arith, least))
+one_at_least (suc count) len least = omega (arith, times count len)
+
+record_form : (head : FileHead) → head.kind ≡ Cyclic → IsFile head → HoldsRecords head
+record_form head kind file = subst (λ (k : Kind). HasForm k head) kind file.form
+
+-- a record for a file has a place in its body
+place_for : (row : FileRow) (number : ℕ) (bytes : List ℕ) → IsFile row.head → length row.body ≡ row.head.size → IsRecordFor row number bytes
+    → HasPlaceFor number bytes row.body
+place_for row zero bytes file body fits = ⊎_elim
+    (λ place. absurd (omega (arith, place.first)))
+    (λ first.
+    let form = record_form row.head first.1 file in
+    omega (arith, fits.exact, body, form.records.3, one_at_least form.records.0 row.head.record_len form.records.1))
+    fits.place
+place_for row (suc before) bytes file body fits = ⊎_elim
+    (λ place. omega (arith, place.last, body, ap (λ (n : ℕ). before * n) fits.exact, fits.exact, times before row.head.record_len))
+    (λ first. absurd (omega (arith, first.0)))
+    fits.place
+
+-- a record that fits a content has a place in its file
+pub record_can : (content : Content) (path : List ℕ) (number : ℕ) (bytes : List ℕ) → IsValid content → Fits content (WriteRecord path number bytes)
+    → IsSomeAnd (file_at path content.rows) (λ row. HasPlaceFor number bytes row.body)
+record_can content path number bytes valid fits =
+    let found = some_is (file_at path content.rows) (λ row. IsRecordFor row number bytes) fits.place in
+    let row = found.0 in
+    let system = system_of content valid path row found.1 in
+    let file : IsFile row.head =
+    found_has (λ r. IsFile r.head) (λ r. same_path r.head.path path) content.rows row ((each_of_map (λ (r : FileRow). r.head) IsFile content.rows).1 system.files.each) found.1 in
+    let body : length row.body ≡ row.head.size =
+    found_has (λ r. length r.body ≡ r.head.size) (λ r. same_path r.head.path path) content.rows row system.files.bodies found.1 in
+    is_some_and (file_at path content.rows) (λ row. HasPlaceFor number bytes row.body) row found.1 (place_for row number bytes file body found.2)

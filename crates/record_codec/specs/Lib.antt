@@ -7,6 +7,7 @@ pub mod FitsCard
 pub mod Returns
 pub mod Gone
 pub mod Heads
+pub mod InPlace
 pub mod IsDurable
 pub mod Local
 pub mod Name

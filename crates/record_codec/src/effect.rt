@@ -51,7 +51,7 @@ fn unbind_each(numbers: &Numbers, ports: &mut Ports)
     }
 }
 
-fn is_among(number: u16, numbers: &[u16]) -> bool
+pub fn is_among(number: u16, numbers: &[u16]) -> bool
     ensures { result ≡ is_among numbers.now number }
 {
     for one in numbers {
@@ -165,7 +165,12 @@ impl Heads {
               self.old.notes);
         } }
     {
-        note_binding(profile, displaced, self.profiles.as_slice(), &mut self.notes);
+        note_binding(
+            profile,
+            displaced,
+            self.profiles.as_slice(),
+            &mut self.notes,
+        );
         let _displaced = self.ports.bind(profile, port);
     }
 
@@ -176,7 +181,12 @@ impl Heads {
           notes = noted_where Disable (head_of profile self.old.profiles) self.old.notes;
         } }
     {
-        note_at(Operation::Disable, profile, self.profiles.as_slice(), &mut self.notes);
+        note_at(
+            Operation::Disable,
+            profile,
+            self.profiles.as_slice(),
+            &mut self.notes,
+        );
         self.ports.unbind(profile);
     }
 
@@ -189,7 +199,12 @@ impl Heads {
           notes = noted_each Delete numbers.now self.old.profiles self.old.notes;
         } }
     {
-        note_each(Operation::Delete, numbers, self.profiles.as_slice(), &mut self.notes);
+        note_each(
+            Operation::Delete,
+            numbers,
+            self.profiles.as_slice(),
+            &mut self.notes,
+        );
         unbind_each(numbers, &mut self.ports);
         self.profiles = profiles_without(numbers, self.profiles.as_slice());
     }

@@ -1,12 +1,16 @@
 //! What a card holds, and the records of its changes: their effect and their coding.
 #![tactic(auto)]
 
+mod apply;
+mod content_change;
 mod counts;
 mod durable;
 mod effect;
 mod fault;
+mod file_change;
 mod fits;
 mod laws;
+mod lists;
 mod notes_fit;
 mod noting;
 mod profile;

@@ -9,8 +9,8 @@ ghost use Rattle.record_codec.specs.Heads.{held_content};
 ghost use Rattle.record_codec.specs.IsDurable.{IsDurable};
 ghost use Rattle.record_codec.specs.Room.{GrowsContent, IsKeptFor, IsRoomFor, KeepsBody, KeepsChange, KeepsFile, KeepsProfile, NeedsMemory};
 
-use crate::rows::{row_in, row_of};
 use crate::fits::content_of;
+use crate::rows::{row_in, row_of};
 use crate::{Durable, NoMemory, Record};
 use file_rows::{Change, Content, FileHead, FileRow, Path};
 use std::alloc::Global;
@@ -24,9 +24,14 @@ pub enum Kept {
         contents: Vec<Content>,
     },
     // A new file's body, and a list for it and the others.
-    File { body: Vec<u8>, rows: Vec<FileRow> },
+    File {
+        body: Vec<u8>,
+        rows: Vec<FileRow>,
+    },
     // The body of a file that has a new size.
-    Body { body: Vec<u8> },
+    Body {
+        body: Vec<u8>,
+    },
 }
 
 /// The memory that a record needs, taken by `Durable::reserve` and used by `Durable::apply`.
