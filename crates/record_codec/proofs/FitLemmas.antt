@@ -16,12 +16,14 @@ use Rattle.plain_lists.specs.EachTwo.{EachTwo}
 use Rattle.port_table.specs.Ports.{StandsOn, bound, unbound}
 use Rattle.port_table.specs.declared.port_mode.PortMode.{PortMode}
 use Rattle.record_codec.specs.Apply.{apply}
+use Rattle.record_codec.specs.Begin.{IsBegun}
 use Rattle.record_codec.specs.FitsCard.{FitsCard}
 use Rattle.record_codec.specs.Gone.{unbound_each, is_among}
 use Rattle.record_codec.specs.Heads.{IsHeld, content_at, head_of}
 use Rattle.record_codec.specs.IsDurable.{AreHeads, AreNotes, ArePorts, AreProfiles, IsDurable, IsHead}
 use Rattle.record_codec.specs.Name.{named}
 use Rattle.record_codec.specs.Noted.{count_of, count_of_each, count_where, noted, noted_each, noted_where}
+use Rattle.record_codec.specs.PutCard.{new_card}
 use Rattle.record_codec.specs.PutProfile.{bound_where}
 use Rattle.record_codec.specs.Takes.{AreGoing, IsBinding, IsCard, IsFree, IsNewProfile, IsUnbinding, Takes, TakesContent, TakesHeads}
 use Rattle.record_codec.specs.declared.durable.Durable.{Durable}
@@ -359,3 +361,14 @@ fits_where durable (records.Unbind profile) are = fits_unbinding durable are pro
 fits_where durable (records.Gone numbers) are = fits_going durable are numbers
 fits_where durable (records.Name profile nickname) are = fits_name durable are profile nickname
 fits_where durable (records.NoteGone number) are = fits_note durable are number
+
+-- a card begins with the record of a new one
+pub begun : (mode : PortMode) (ports : ℕ) (eid : List ℕ) (next_number next_note : ℕ) (notes : List Note) (held : Durable)
+    → held ≡ new_card mode ports eid next_number next_note notes → IsCard mode ports next_note notes
+    → IsBegun (records.PutCard mode ports eid next_number next_note notes) held
+begun mode ports eid next_number next_note notes held is card = record {
+  begins = card;
+  after = λ before. is;
+  valid = subst IsDurable (sym is)
+      ((fits_card held mode ports eid next_number next_note notes).1 (record { heads = card; content = tt })).after;
+}

@@ -8,8 +8,10 @@ pub mod HeldLemmas
 pub mod LocalLemmas
 pub mod LoopLemmas
 pub mod PortLemmas
+pub mod ReadLemmas
 pub mod RecordTakes
 pub mod RowLemmas
 pub mod SizeLemmas
+pub mod StayLemmas
 pub mod TakesLemmas
 pub mod WindowLemmas

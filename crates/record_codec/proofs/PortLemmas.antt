@@ -17,7 +17,7 @@ use Rattle.record_codec.specs.declared.durable.Heads.{Heads}
 use Rattle.record_codec.specs.declared.profile.ProfileHead.{ProfileHead}
 
 -- what a list has where another element was put
-set_cases : {X : Type 0} (xs : List X) (i j : ℕ) (v y : X) → slice_get (set xs i v) j ≡ Some y → ((j ≡ i) × (v ≡ y)) ⊎ (slice_get xs j ≡ Some y)
+pub set_cases : {X : Type 0} (xs : List X) (i j : ℕ) (v y : X) → slice_get (set xs i v) j ≡ Some y → ((j ≡ i) × (v ≡ y)) ⊎ (slice_get xs j ≡ Some y)
 set_cases [] i j v y e = absurd (cc)
 set_cases (x ∷ xs) zero zero v y e = inl (refl, cc)
 set_cases (x ∷ xs) zero (suc j) v y e = inr e

@@ -1,4 +1,5 @@
 pub mod Apply
+pub mod Begin
 pub mod Behind
 pub mod Bind
 pub mod Content

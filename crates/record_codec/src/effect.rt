@@ -18,7 +18,7 @@ use crate::{Heads, Label, Numbers, ProfileHead, ProfileList, Record};
 use notify_list::{Note, Operation};
 use port_table::{PortList, PortMode, Ports};
 
-fn empty_ports(mode: PortMode, count: u8) -> Ports
+pub fn empty_ports(mode: PortMode, count: u8) -> Ports
     requires { count ≤ 8 }
     ensures { result ≡ record { mode = mode; count = count; on = replicate count None } }
 {

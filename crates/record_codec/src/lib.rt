@@ -2,6 +2,7 @@
 #![tactic(auto)]
 
 mod apply;
+mod begin;
 mod content_change;
 mod counts;
 mod durable;

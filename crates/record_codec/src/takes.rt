@@ -29,7 +29,7 @@ fn fewest_ports(mode: PortMode) -> u8
     }
 }
 
-fn is_card(mode: PortMode, ports: u8, next_note: u64, notes: &[Note]) -> bool
+pub fn is_card(mode: PortMode, ports: u8, next_note: u64, notes: &[Note]) -> bool
     ensures { IsTrue result ↔ IsCard mode ports next_note notes.now }
 {
     fewest_ports(mode) <= ports && ports <= 8 && are_notes(notes, next_note)
