@@ -25,7 +25,7 @@ use Rattle.record_codec.specs.Name.{named}
 use Rattle.record_codec.specs.Noted.{count_of, count_of_each, count_where, noted, noted_each, noted_where}
 use Rattle.record_codec.specs.PutCard.{new_card}
 use Rattle.record_codec.specs.PutProfile.{bound_where}
-use Rattle.record_codec.specs.Takes.{AreGoing, IsBinding, IsCard, IsFree, IsNewProfile, IsUnbinding, Takes, TakesContent, TakesHeads}
+use Rattle.record_codec.specs.Takes.{AreGoing, IsBinding, IsCard, IsFreePort, IsNewProfile, IsUnbinding, TakesContent, TakesHeads, TakesRecord}
 use Rattle.record_codec.specs.declared.durable.Durable.{Durable}
 use Rattle.record_codec.specs.declared.durable.Heads.{Heads}
 use Rattle.record_codec.specs.declared.profile.Profile.{Profile}
@@ -38,7 +38,7 @@ use Rattle.record_codec.proofs.PortLemmas.{bound_are, each_count, each_rule, non
 
 -- a new card
 fits_card : (durable : Durable) (mode : PortMode) (ports : ℕ) (eid : List ℕ) (next_number next_note : ℕ) (notes : List Note)
-    → FitsCard durable (records.PutCard mode ports eid next_number next_note notes) ↔ Takes durable (records.PutCard mode ports eid next_number next_note notes)
+    → FitsCard durable (records.PutCard mode ports eid next_number next_note notes) ↔ TakesRecord durable (records.PutCard mode ports eid next_number next_note notes)
 fits_card durable mode ports eid next_number next_note notes = (
   λ fits. record {
     heads = record { some = fits.after.heads.ports.some; few = fits.after.heads.ports.few; pending = fits.after.heads.notes };
@@ -75,14 +75,14 @@ module _ (durable : Durable) (are : IsDurable durable) (profile : Profile) where
   more = heads.profiles ++ profile.head ∷ []
 
   free_place : (port : Option ℕ) → IfSome port (λ port. slice_get heads.ports.on port ≡ Some None)
-      → ArePorts more (bound_where profile.head.number port heads.ports) → IfSome port (λ port. IsFree heads port)
+      → ArePorts more (bound_where profile.head.number port heads.ports) → IfSome port (λ port. IsFreePort heads port)
   free_place None free after = tt
   free_place (Some port) free after = record {
     free = free;
     place = after.rule.places profile.head.number port (set_there heads.ports.on port (Some profile.head.number) None free);
   }
 
-  is_free : (port : Option ℕ) → IfSome port (λ port. IsFree heads port) → IfSome port (λ port. slice_get heads.ports.on port ≡ Some None)
+  is_free : (port : Option ℕ) → IfSome port (λ port. IsFreePort heads port) → IfSome port (λ port. slice_get heads.ports.on port ≡ Some None)
   is_free None free = tt
   is_free (Some port) free = free.free
 
@@ -93,7 +93,7 @@ module _ (durable : Durable) (are : IsDurable durable) (profile : Profile) where
   held_last = any_right (λ head. head.number ≡ profile.head.number) heads.profiles (profile.head ∷ [])
       (any_first (λ head. head.number ≡ profile.head.number) profile.head [] refl)
 
-  ports_after : (port : Option ℕ) → (IsHeld profile.head.number heads.profiles → ⊥) → IfSome port (λ port. IsFree heads port)
+  ports_after : (port : Option ℕ) → (IsHeld profile.head.number heads.profiles → ⊥) → IfSome port (λ port. IsFreePort heads port)
       → ArePorts more (bound_where profile.head.number port heads.ports)
   ports_after None new free = record {
     some = are.heads.ports.some;
@@ -143,7 +143,7 @@ module _ (durable : Durable) (are : IsDurable durable) (profile : Profile) where
   }
 
   fits_profile : (installation : Bool) (port : Option ℕ)
-      → FitsCard durable (records.PutProfile installation profile port) ↔ Takes durable (records.PutProfile installation profile port)
+      → FitsCard durable (records.PutProfile installation profile port) ↔ TakesRecord durable (records.PutProfile installation profile port)
   fits_profile installation port = (
     λ fits.
         let profiles = fits.after.heads.profiles in
@@ -198,7 +198,7 @@ module _ (durable : Durable) (are : IsDurable durable) where
   after_change None change there = absurd there
   after_change (Some content) change there = there.after
 
-  fits_change : (profile : ℕ) (change : Change) → FitsCard durable (records.Content profile change) ↔ Takes durable (records.Content profile change)
+  fits_change : (profile : ℕ) (change : Change) → FitsCard durable (records.Content profile change) ↔ TakesRecord durable (records.Content profile change)
   fits_change profile change = (
     λ fits. record { heads = tt; content = fits.place },
     λ takes. record {
@@ -217,7 +217,7 @@ module _ (durable : Durable) (are : IsDurable durable) where
   abbrev same_contents : Heads → Durable
   same_contents heads = record { heads = heads; contents = durable.contents }
 
-  fits_binding : (profile port : ℕ) (displaced : Option ℕ) → FitsCard durable (records.Bind profile port displaced) ↔ Takes durable (records.Bind profile port displaced)
+  fits_binding : (profile port : ℕ) (displaced : Option ℕ) → FitsCard durable (records.Bind profile port displaced) ↔ TakesRecord durable (records.Bind profile port displaced)
   fits_binding profile port displaced =
       let held = durable.heads in
       let each = are.heads.profiles.each in
@@ -253,7 +253,7 @@ module _ (durable : Durable) (are : IsDurable durable) where
             },
       )
 
-  fits_unbinding : (profile : ℕ) → FitsCard durable (records.Unbind profile) ↔ Takes durable (records.Unbind profile)
+  fits_unbinding : (profile : ℕ) → FitsCard durable (records.Unbind profile) ↔ TakesRecord durable (records.Unbind profile)
   fits_unbinding profile =
       let held = durable.heads in
       let its = head_of profile held.profiles in
@@ -288,7 +288,7 @@ module _ (durable : Durable) (are : IsDurable durable) where
             left_held numbers another held.profiles stood.1 (are.heads.ports.held another port stood.0);
       }
 
-  fits_going : (numbers : List ℕ) → FitsCard durable (records.Gone numbers) ↔ Takes durable (records.Gone numbers)
+  fits_going : (numbers : List ℕ) → FitsCard durable (records.Gone numbers) ↔ TakesRecord durable (records.Gone numbers)
   fits_going numbers =
       let held = durable.heads in
       let notes = notes_fit _ _ _ (grows_numbers Delete numbers held.profiles held.notes are.heads.profiles.each) are.heads.notes in (
@@ -312,7 +312,7 @@ module _ (durable : Durable) (are : IsDurable durable) where
         },
       )
 
-  fits_name : (profile : ℕ) (nickname : List ℕ) → FitsCard durable (records.Name profile nickname) ↔ Takes durable (records.Name profile nickname)
+  fits_name : (profile : ℕ) (nickname : List ℕ) → FitsCard durable (records.Name profile nickname) ↔ TakesRecord durable (records.Name profile nickname)
   fits_name profile nickname =
       let held = durable.heads in (
         λ fits. record {
@@ -340,7 +340,7 @@ module _ (durable : Durable) (are : IsDurable durable) where
         },
       )
 
-  fits_note : (number : ℕ) → FitsCard durable (records.NoteGone number) ↔ Takes durable (records.NoteGone number)
+  fits_note : (number : ℕ) → FitsCard durable (records.NoteGone number) ↔ TakesRecord durable (records.NoteGone number)
   fits_note number = (
     λ fits. record { heads = tt; content = tt },
     λ takes. record {
@@ -352,7 +352,7 @@ module _ (durable : Durable) (are : IsDurable durable) where
     },
   )
 
-pub fits_where : (durable : Durable) (entry : Record) → IsDurable durable → FitsCard durable entry ↔ Takes durable entry
+pub fits_where : (durable : Durable) (entry : Record) → IsDurable durable → FitsCard durable entry ↔ TakesRecord durable entry
 fits_where durable (records.PutCard mode ports eid next_number next_note notes) are = fits_card durable mode ports eid next_number next_note notes
 fits_where durable (records.PutProfile installation profile port) are = fits_profile durable are profile installation port
 fits_where durable (records.Content profile change) are = fits_change durable are profile change

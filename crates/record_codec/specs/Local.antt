@@ -21,7 +21,7 @@ abbrev pub TouchesPort : Record → ℕ → Type 0
 TouchesPort (PutCard mode ports eid next_number next_note notes) profile = ⊤
 TouchesPort (PutProfile installation put port) profile = put.head.number ≡ profile
 TouchesPort (Content changed change) profile = ⊥
-TouchesPort (Bind bound port displaced) profile = (bound ≡ profile) ⊎ (displaced ≡ Some profile)
+TouchesPort (Bind bound port other) profile = (bound ≡ profile) ⊎ (other ≡ Some profile)
 TouchesPort (Unbind bound) profile = bound ≡ profile
 TouchesPort (Gone profiles) profile = is_among profiles profile ≡ true
 TouchesPort (Name named nickname) profile = ⊥

@@ -27,7 +27,8 @@ abbrev pub KeepsFile : ℕ → FileHead → Kept → Type 0
 KeepsFile count head Nothing = ⊥
 KeepsFile count head (Profile kept contents) = ⊥
 KeepsFile count head (File body rows) =
-    (body.items ≡ replicate head.size 255) × (rows.items ≡ []) × (count + 1 ≤ vec_capacity rows)
+    (body.items ≡ replicate head.size 255) × (rows.items ≡ [])
+    × (count + 1 ≤ vec_capacity rows)
 KeepsFile count head (Body body) = ⊥
 
 -- a body with its new size

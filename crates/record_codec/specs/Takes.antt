@@ -26,13 +26,13 @@ pub record IsCard (mode : PortMode) (ports next_note : ℕ) (notes : List Note) 
   pub pending : AreNotes (record { list = notes; next = next_note })
 
 -- the port holds no profile, and is one on which a profile may stand
-pub record IsFree (heads : Heads) (port : ℕ) : Type 0 where
+pub record IsFreePort (heads : Heads) (port : ℕ) : Type 0 where
   pub free : slice_get heads.ports.on port ≡ Some None
   pub place : HasProfiles heads.ports.mode port
 
 -- One more profile has a place: it has a head's form, and a number and an ICCID of its own; an
--- installation has the next number and room for its notifications, and a copy had its number before;
--- its port is free.
+-- installation has the next number and room for its notifications, and a copy had its number
+-- before; its port is free.
 pub record IsNewProfile (heads : Heads) (installation : Bool) (head : ProfileHead)
     (port : Option ℕ) : Type 0 where
   pub few : length heads.profiles < 16
@@ -41,7 +41,7 @@ pub record IsNewProfile (heads : Heads) (installation : Bool) (head : ProfileHea
   pub iccid : AllByRecursion (λ other. other.iccid ≢ head.iccid) heads.profiles
   pub next : installation ≡ true → head.number ≡ heads.next_number
   pub before : installation ≡ false → head.number < heads.next_number
-  pub free : IfSome port (λ port. IsFree heads port)
+  pub free : IfSome port (λ port. IsFreePort heads port)
   pub room : installation ≡ true → HasNoteRoom heads.notes (count_of Install head)
 
 -- the profile is held and stands on no port, one may stand on this port, and the displaced one is
@@ -93,6 +93,6 @@ TakesContent durable (Name profile nickname) = ⊤
 TakesContent durable (NoteGone number) = ⊤
 
 -- what each kind of record needs
-pub record Takes (durable : Durable) (entry : Record) : Type 0 where
+pub record TakesRecord (durable : Durable) (entry : Record) : Type 0 where
   pub heads : TakesHeads durable.heads entry
   pub content : TakesContent durable entry

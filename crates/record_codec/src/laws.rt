@@ -9,7 +9,7 @@ ghost use Rattle.record_codec.specs.Reading.{record_read};
 ghost use Rattle.record_codec.specs.Sizes.{Codes, HasSizes};
 ghost use Rattle.record_codec.specs.Heads.{held_content, head_of};
 ghost use Rattle.record_codec.specs.Local.{TakesNote, TouchesContent, TouchesHead, TouchesPort};
-ghost use Rattle.record_codec.specs.Takes.{Takes};
+ghost use Rattle.record_codec.specs.Takes.{TakesRecord};
 ghost use Rattle.record_codec.specs.declared.durable.Durable.{Durable};
 ghost use Rattle.record_codec.specs.declared.record.Record.{Record};
 
@@ -60,10 +60,10 @@ pub fn reading_is_of_codings()
 
 /// A record has one coding, and a coding is that of one record.
 pub fn codings_are_unique()
-    ensures entry { (bytes : List ℕ) (one other : Record) → Codes bytes one → Codes bytes other
-        → one ≡ other }
-    ensures coding { (one other : List ℕ) (entry : Record) → Codes one entry → Codes other entry
-        → one ≡ other }
+    ensures entry { (bytes : List ℕ) (one other : Record)
+        → Codes bytes one → Codes bytes other → one ≡ other }
+    ensures coding { (one other : List ℕ) (entry : Record)
+        → Codes one entry → Codes other entry → one ≡ other }
 {}
 
 /// A record that fits what a card holds has room in its coding, so that it can be put.
@@ -75,5 +75,5 @@ pub fn fitting_records_have_sizes()
 /// content leaves each profile, port and content as a card may hold it.
 pub fn records_fit_by_kind()
     ensures { (durable : Durable) (entry : Record) → IsDurable durable
-        → FitsCard durable entry ↔ Takes durable entry }
+        → FitsCard durable entry ↔ TakesRecord durable entry }
 {}

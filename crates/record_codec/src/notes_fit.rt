@@ -9,7 +9,7 @@ use notify_list::{Address, MOST_NOTES, Note};
 // Whether each character is printable ASCII without the space.
 fn are_printable(address: &[u8]) -> bool
     ensures { IsTrue result
-        ↔ AllByRecursion (λ character. (0x21 ≤ character) × (character ≤ 0x7E)) address.now }
+        ↔ AllByRecursion (λ letter. (0x21 ≤ letter) × (letter ≤ 0x7E)) address.now }
 {
     for character in address {
         if !matches!(*character, 0x21..=0x7E) {

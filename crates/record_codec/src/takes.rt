@@ -11,7 +11,7 @@ ghost use Rattle.record_codec.specs.Heads.{IsHeld, content_at, head_of};
 ghost use Rattle.record_codec.specs.IsDurable.{IsAddress, IsDurable, IsHead, fewest_ports};
 ghost use Rattle.record_codec.specs.FitsCard.{FitsCard};
 ghost use Rattle.record_codec.specs.Noted.{count_of, count_of_each, count_where};
-ghost use Rattle.record_codec.specs.Takes.{AreGoing, IsBinding, IsCard, IsFree, IsNewProfile, IsUnbinding, TakesContent, TakesHeads};
+ghost use Rattle.record_codec.specs.Takes.{AreGoing, IsBinding, IsCard, IsFreePort, IsNewProfile, IsUnbinding, TakesContent, TakesHeads};
 
 use crate::counts::{count_at, count_of, count_of_each, is_held};
 use crate::notes_fit::{are_notes, is_address};
@@ -183,13 +183,13 @@ fn may_go(numbers: &[u16], profiles: &[ProfileHead]) -> bool
 
 impl Heads {
     fn is_free(&self, port: u8) -> bool
-        ensures { IsTrue result ↔ IsFree self.now port }
+        ensures { IsTrue result ↔ IsFreePort self.now port }
     {
         is_there(None, self.ports.on.as_slice(), port) && has_profiles(self.ports.mode, port)
     }
 
     fn is_free_where(&self, port: Option<u8>) -> bool
-        ensures { IsTrue result ↔ IfSome port (λ port. IsFree self.now port) }
+        ensures { IsTrue result ↔ IfSome port (λ port. IsFreePort self.now port) }
     {
         match port {
             Some(port) => self.is_free(port),
