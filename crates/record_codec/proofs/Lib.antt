@@ -5,6 +5,7 @@ pub mod FieldLemmas
 pub mod FitLemmas
 pub mod GrowLemmas
 pub mod HeldLemmas
+pub mod LengthLemmas
 pub mod LocalLemmas
 pub mod LoopLemmas
 pub mod PortLemmas

@@ -1,4 +1,4 @@
-ghost use Rattle.std.specs.Prelude.{◌≡◌, ◌≢◌, ◌<◌, ◌↔◌, [], Some, Contains, slice_index_or, ℕ, List, length};
+ghost use Rattle.std.specs.Prelude.{◌≡◌, ◌≢◌, ◌<◌, ◌≤◌, ◌↔◌, [], Some, Contains, slice_index_or, ℕ, List, length};
 ghost use Rattle.file_rows.specs.declared.change.Change.{Change};
 ghost use Rattle.notify_list.specs.declared.note.Note.{Note};
 ghost use Rattle.port_table.specs.Ports.{StandsOn};
@@ -6,7 +6,8 @@ ghost use Rattle.record_codec.specs.Apply.{apply, heads_after};
 ghost use Rattle.record_codec.specs.FitsCard.{FitsCard};
 ghost use Rattle.record_codec.specs.IsDurable.{IsDurable};
 ghost use Rattle.record_codec.specs.Reading.{record_read};
-ghost use Rattle.record_codec.specs.Sizes.{Codes, HasSizes};
+ghost use Rattle.record_codec.specs.Sizes.{Codes, HasCoding, HasSizes};
+ghost use Rattle.record_codec.specs.Spelling.{spelling};
 ghost use Rattle.record_codec.specs.Heads.{held_content, head_of};
 ghost use Rattle.record_codec.specs.Local.{TakesNote, TouchesContent, TouchesHead, TouchesPort};
 ghost use Rattle.record_codec.specs.Takes.{TakesRecord};
@@ -71,8 +72,14 @@ pub fn fitting_records_have_sizes()
     ensures { (durable : Durable) (entry : Record) → FitsCard durable entry → HasSizes entry }
 {}
 
-/// Just when a record fits what a card holds, by its kind. A record of what goes, of a name or of a
-/// content leaves each profile, port and content as a card may hold it.
+/// The coding of a record that fits what a card holds has at most 77,600 bytes. The longest are
+/// those of a profile whose files fill the quota.
+pub fn fitting_records_are_short()
+    ensures { (durable : Durable) (entry : Record) → FitsCard durable entry → HasCoding entry
+        → length (spelling entry) ≤ 77600 }
+{}
+
+/// Just when a record fits what a card holds, by its kind.
 pub fn records_fit_by_kind()
     ensures { (durable : Durable) (entry : Record) → IsDurable durable
         → FitsCard durable entry ↔ TakesRecord durable entry }

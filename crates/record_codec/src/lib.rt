@@ -30,8 +30,8 @@ mod writing;
 pub use durable::{Durable, Heads, ProfileList};
 pub use fault::RecordFault;
 pub use laws::{
-    codings_are_unique, fitting_records_have_sizes, reading_is_of_codings, records_are_local,
-    records_fit_by_kind,
+    codings_are_unique, fitting_records_are_short, fitting_records_have_sizes,
+    reading_is_of_codings, records_are_local, records_fit_by_kind,
 };
 pub use profile::{BoxedProfile, Label, NoteTarget, Profile, ProfileHead, Provider, Targets};
 pub use reading::read_record;
