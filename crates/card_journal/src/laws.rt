@@ -1,10 +1,14 @@
-ghost use Rattle.std.specs.Prelude.{◌≡◌, ◌<◌, ◌^◌, [], ◌∷◌, ◌++◌, ℕ, List, length};
-ghost use Rattle.card_journal.specs.Image.{AreCodings, Holds, Leave, MakesCard, live_bytes};
-ghost use Rattle.flash_pages.specs.Rows.{HasRows};
+ghost use Rattle.std.specs.Prelude.{◌≡◌, ◌≤◌, ◌<◌, ◌*◌, ◌^◌, [], ◌∷◌, ◌++◌, ℕ, List, length, map};
+ghost use Rattle.std.specs.List.{AllByRecursion};
+ghost use Rattle.card_journal.specs.Copy.{copy_of};
+ghost use Rattle.card_journal.specs.Image.{Holds, Leave, MakesCard, bank_of, live_bytes};
+ghost use Rattle.flash_pages.specs.Flash.{block_len};
+ghost use Rattle.flash_pages.specs.Rows.{HasRows, open_rows, row_of};
 ghost use Rattle.record_codec.specs.Apply.{apply};
 ghost use Rattle.record_codec.specs.FitsCard.{FitsCard};
 ghost use Rattle.record_codec.specs.IsDurable.{IsDurable};
-ghost use Rattle.record_codec.specs.Sizes.{Codes};
+ghost use Rattle.record_codec.specs.Sizes.{Codes, HasCoding};
+ghost use Rattle.record_codec.specs.Spelling.{spelling};
 ghost use Rattle.record_codec.specs.declared.durable.Durable.{Durable};
 ghost use Rattle.record_codec.specs.declared.record.Record.{Record};
 
@@ -23,4 +27,20 @@ pub fn records_are_appended()
         → HasRows (live_bytes after) (holds.bodies ++ body ∷ [])
         → Codes body entry → ¬ MakesCard entry → FitsCard held entry
         → Holds after (apply held entry) }
+{}
+
+/// The copy of a card, which a switch writes, leaves that card: a new card with its numbers and
+/// notifications, and then its profiles, each on its port.
+pub fn copies_leave_the_card()
+    ensures { (held : Durable) → IsDurable held → Leave (copy_of held) held }
+{}
+
+/// The rows of a card's copy take at most 1,319,285 bytes, and one more row for a record that fits
+/// at most 77,605. A bank has 4,980,736, so a row always fits behind a copy.
+pub fn copies_leave_room()
+    ensures copy { (held : Durable) → IsDurable held → AllByRecursion HasCoding (copy_of held)
+        → length (open_rows (map spelling (copy_of held))) ≤ 1319285 }
+    ensures row { (held : Durable) (entry : Record) → FitsCard held entry → HasCoding entry
+        → length (row_of (spelling entry)) ≤ 77605 }
+    ensures bank { (live : ℕ) → block_len * (bank_of live).blocks ≡ 4980736 }
 {}

@@ -6,4 +6,9 @@ mod body;
 mod laws;
 
 pub use body::RecordBody;
-pub use laws::{images_hold_one_card, records_are_appended};
+pub use laws::{
+    copies_leave_room, copies_leave_the_card, images_hold_one_card, records_are_appended,
+};
+
+#[cfg(test)]
+mod tests;
