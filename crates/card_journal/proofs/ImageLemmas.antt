@@ -1,6 +1,6 @@
 -- What an image holds.
 use Rattle.std.proofs.Common.{◌≡◌, ℕ, ◌<◌, ◌^◌, List, [], ◌∷◌, ◌++◌, length, refl, sym, ◌∙◌, ap, subst}
-use Rattle.card_journal.specs.Image.{AreCodings, Follow, Holds, Leave, MakesCard, live_bytes}
+use Rattle.card_journal.specs.Image.{AreCodings, Follow, HoldsCard, Leave, MakesCard, live_bytes}
 use Rattle.flash_pages.specs.Rows.{HasRows}
 use Rattle.flash_pages.proofs.Unique.{unique}
 use Rattle.record_codec.specs.Apply.{apply, fold}
@@ -30,7 +30,7 @@ one_left (entry ∷ entries) one other first second =
     let begun : first.0 ≡ second.0 = first.1.after one ∙ sym (second.1.after one) in
     first.3 ∙ ap (λ (d : Durable). fold d entries) begun ∙ sym second.3
 
-pub one_card : (image : List ℕ) (one other : Durable) → length (live_bytes image) < 2 ^ 32 → Holds image one → Holds image other → one ≡ other
+pub one_card : (image : List ℕ) (one other : Durable) → length (live_bytes image) < 2 ^ 32 → HoldsCard image one → HoldsCard image other → one ≡ other
 one_card image one other fits first second =
     let bodies : first.bodies ≡ second.bodies = unique (live_bytes image) first.bodies second.bodies fits first.rows second.rows in
     let entries : first.entries ≡ second.entries =
@@ -46,7 +46,7 @@ valid_left : (entries : List Record) (held : Durable) → Leave entries held →
 valid_left [] held left = absurd left
 valid_left (first ∷ entries) held left = subst IsDurable (sym left.3) (folded left.0 entries left.1.valid left.2)
 
-pub valid : (image : List ℕ) (held : Durable) → Holds image held → IsDurable held
+pub valid : (image : List ℕ) (held : Durable) → HoldsCard image held → IsDurable held
 valid image held holds = valid_left holds.entries held holds.left
 
 codings_more : (bodies : List (List ℕ)) (entries : List Record) (body : List ℕ) (entry : Record) → AreCodings bodies entries → Codes body entry
@@ -76,9 +76,9 @@ left_more (first ∷ entries) held entry left old fits = (
 )
 
 -- one more record in a row behind the others
-pub appended : (before after : List ℕ) (held : Durable) (entry : Record) (body : List ℕ) → (holds : Holds before held)
+pub appended : (before after : List ℕ) (held : Durable) (entry : Record) (body : List ℕ) → (holds : HoldsCard before held)
     → HasRows (live_bytes after) (holds.bodies ++ body ∷ []) → Codes body entry → (MakesCard entry → ⊥) → FitsCard held entry
-    → Holds after (apply held entry)
+    → HoldsCard after (apply held entry)
 appended before after held entry body holds rows codes old fits = record {
   bodies = holds.bodies ++ body ∷ [];
   entries = holds.entries ++ entry ∷ [];

@@ -53,10 +53,10 @@ Follow held (entry ∷ entries) =
 abbrev pub Leave : List Record → Durable → Type 0
 Leave [] held = ⊥
 Leave (first ∷ entries) held =
-    (begun : Durable) × IsBegun first begun × Follow begun entries × (held ≡ fold begun entries)
+    (new : Durable) × IsBegun first new × Follow new entries × (held ≡ fold new entries)
 
 -- the open rows of the live bank are the codings of records that leave this
-pub record Holds (image : List ℕ) (held : Durable) : Type 0 where
+pub record HoldsCard (image : List ℕ) (held : Durable) : Type 0 where
   pub bodies : List (List ℕ)
   pub entries : List Record
   pub rows : HasRows (live_bytes image) bodies

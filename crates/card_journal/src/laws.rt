@@ -1,7 +1,7 @@
 ghost use Rattle.std.specs.Prelude.{◌≡◌, ◌≤◌, ◌<◌, ◌*◌, ◌^◌, [], ◌∷◌, ◌++◌, ℕ, List, length, map};
 ghost use Rattle.std.specs.List.{AllByRecursion};
 ghost use Rattle.card_journal.specs.Copy.{copy_of};
-ghost use Rattle.card_journal.specs.Image.{Holds, Leave, MakesCard, bank_of, live_bytes};
+ghost use Rattle.card_journal.specs.Image.{HoldsCard, Leave, MakesCard, bank_of, live_bytes};
 ghost use Rattle.flash_pages.specs.Flash.{block_len};
 ghost use Rattle.flash_pages.specs.Rows.{HasRows, open_rows, row_of};
 ghost use Rattle.record_codec.specs.Apply.{apply};
@@ -15,18 +15,19 @@ ghost use Rattle.record_codec.specs.declared.record.Record.{Record};
 /// An image holds at most one card, and what it holds is what a card may hold.
 pub fn images_hold_one_card()
     ensures one { (image : List ℕ) (one other : Durable) → length (live_bytes image) < 2 ^ 32
-        → Holds image one → Holds image other → one ≡ other }
-    ensures valid { (image : List ℕ) (held : Durable) → Holds image held → IsDurable held }
+        → HoldsCard image one → HoldsCard image other → one ≡ other }
+    ensures valid { (image : List ℕ) (held : Durable)
+        → HoldsCard image held → IsDurable held }
 {}
 
 /// With one more open row behind those of the live bank, which is the coding of a record that fits,
 /// an image holds what the record makes of the card.
 pub fn records_are_appended()
     ensures { (before after : List ℕ) (held : Durable) (entry : Record) (body : List ℕ)
-        → (holds : Holds before held)
+        → (holds : HoldsCard before held)
         → HasRows (live_bytes after) (holds.bodies ++ body ∷ [])
         → Codes body entry → ¬ MakesCard entry → FitsCard held entry
-        → Holds after (apply held entry) }
+        → HoldsCard after (apply held entry) }
 {}
 
 /// The copy of a card, which a switch writes, leaves that card: a new card with its numbers and
