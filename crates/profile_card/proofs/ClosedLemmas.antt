@@ -1,8 +1,7 @@
 -- What comes to a card on a channel that isn't open.
-use Rattle.std.proofs.Common.{◌≡◌, Bool, true, false, cond, sym, ◌∙◌, ap, refl, Option, None}
+use Rattle.std.proofs.Common.{◌≡◌, Bool, true, false, cond, ◌∙◌, ap, refl, Option, None}
 use Rattle.std.specs.Prelude.{◌==◌, is_some}
 use Rattle.apdu_codec.specs.Command.{Apdu}
-use Rattle.apdu_codec.specs.declared.status.Sw.{Sw}
 use Rattle.apdu_codec.specs.declared.status.TheConstants.Sw.{CHANNEL_NOT_SUPPORTED}
 use Rattle.plain_lists.specs.FirstOf.{first_of}
 use Rattle.uicc_channels.specs.CommandOutcome.{refused}

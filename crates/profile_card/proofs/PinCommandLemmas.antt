@@ -1,6 +1,6 @@
 -- What the PIN commands come to at a card.
-use Rattle.std.proofs.Common.{◌≡◌, ℕ, ◌≤◌, Bool, true, false, cond, List, [], ◌∷◌, sym, subst, arith, ⊎_elim, Option, Some, None, IfSome, Contains}
-use Rattle.std.specs.Prelude.{Any, option_map}
+use Rattle.std.proofs.Common.{◌≡◌, ℕ, Bool, true, false, cond, List, [], ◌∷◌, sym, subst, arith, ⊎_elim, Option, Some, None, IfSome, Contains}
+use Rattle.std.specs.Prelude.{option_map}
 use Rattle.std.specs.List.{AllByRecursion}
 use Rattle.access_rules.proofs.Finding.{Contains-pin_for}
 use Rattle.access_rules.specs.Met.{pin_for}
@@ -11,7 +11,6 @@ use Rattle.file_rows.proofs.PinSetLemmas.{fits_pin}
 use Rattle.file_rows.specs.Change.{Fits, KeepsPin}
 use Rattle.file_rows.specs.Content.{IsValid}
 use Rattle.file_rows.specs.PinRow.{IsPin}
-use Rattle.file_rows.specs.declared.change.Change.{Change}
 use Rattle.file_rows.specs.declared.change.Change.TheVariants.{PinSet}
 use Rattle.file_rows.specs.declared.content.Content.{Content}
 use Rattle.file_rows.specs.declared.pin.PinRow.{PinRow}
