@@ -57,7 +57,7 @@ found_there row run way number whole there =
     (each_filter (IsUpTo (record_count row.head)) (λ n. holds_run run (record_at row n)) (walk way number (records_left way (record_count row.head) number))
     (walk_up_to way (record_count row.head) number there.first (up_to_count row number there)))
 
-length-bytes_of : (k n : ℕ) → length (bytes_of k n) ≡ k
+pub length-bytes_of : (k n : ℕ) → length (bytes_of k n) ≡ k
 length-bytes_of zero n = refl
 length-bytes_of (suc k) n = ap suc (length-bytes_of k (n % 256 ^ k))
 
