@@ -25,7 +25,7 @@ use Rattle.uicc_data.specs.FileUse.{needs_of_reading, needs_of_writing}
 use Rattle.uicc_data.specs.Increase.{can_be_added, giving_sum, increase_file, increase_row, increasing}
 use Rattle.uicc_data.specs.Number.{sum_of}
 use Rattle.uicc_data.specs.Record.{read_record_row, reading_number, reading_record, record_place, update_record_row, write_place, writing_number, writing_record}
-use Rattle.uicc_data.specs.RecordWalk.{record_at, record_in}
+use Rattle.uicc_data.specs.RecordWalk.{record_bytes, record_in}
 use Rattle.uicc_data.specs.Search.{found_from, giving_numbers, search_place, search_record_row, search_start, searching}
 
 module _ (P : CommandOutcome → Type 0) (rows : List FileRow) (allowed : List ℕ → Mode → Bool) (session : Session) (c : Apdu) (where_refused : (sw : Sw) → P (refused session sw)) where
@@ -88,8 +88,8 @@ module _ (P : CommandOutcome → Type 0) (rows : List FileRow) (allowed : List �
       where_named-has P session where_refused (needs_of_writing session c) _ (increase_file c.p1 c.p2)
       (λ file. on_file-has P session where_refused (needs_of_writing session c) allowed (not_there file) (increasing session c)
       (file_named rows (open_channel session c.channel) file)
-      (λ row named channel lengths kind own. sum-has holds row.head.path (sum_of (record_at row 1) c.body)
-      (first_none _ _ (rest_none (refused_unless (can_be_added (record_at row 1) c.body) WRONG_LENGTH) _ own))))
+      (λ row named channel lengths kind own. sum-has holds row.head.path (sum_of (record_bytes row 1) c.body)
+      (first_none _ _ (rest_none (refused_unless (can_be_added (record_bytes row 1) c.body) WRONG_LENGTH) _ own))))
 
 module _ (session : Session) (number : ℕ) (chan : Chan) (is_open : channel_at session number ≡ Some chan) where
   the_channel : open_channel session number ≡ chan

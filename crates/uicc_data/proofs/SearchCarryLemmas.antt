@@ -31,8 +31,8 @@ use Rattle.uicc_data.specs.CarriesOut.{CanCarryOut}
 use Rattle.uicc_data.specs.FileReference.{file_named, not_there, pointer_at, using}
 use Rattle.uicc_data.specs.FileUse.{needs_of_writing}
 use Rattle.uicc_data.specs.Increase.{can_be_added, giving_sum, increase_file, increase_row, increasing}
-use Rattle.uicc_data.specs.Number.{bytes_of, sum_of, value_of}
-use Rattle.uicc_data.specs.RecordWalk.{HoldsWholeRecords, record_at, record_count, record_in}
+use Rattle.uicc_data.specs.Number.{number_bytes, sum_of, number_of}
+use Rattle.uicc_data.specs.RecordWalk.{HoldsWholeRecords, record_bytes, record_count, record_in}
 use Rattle.uicc_data.specs.Search.{found_from, giving_numbers, holds_run, records_left, search_place, search_record_row, search_start, searching, walk}
 use Rattle.uicc_data.specs.declared.search.Direction.{Direction}
 use Rattle.uicc_data.specs.declared.search.Direction.TheVariants.{Forwards, Backwards}
@@ -54,23 +54,23 @@ found_there : (row : FileRow) (run : List ℕ) (way : Direction) (number : ℕ) 
     → AllByRecursion (HasRecord row.head) (found_from row run way number)
 found_there row run way number whole there =
     each_weaker (IsUpTo (record_count row.head)) (HasRecord row.head) (λ n is. has_record row n whole is.0 is.1) (found_from row run way number)
-    (each_filter (IsUpTo (record_count row.head)) (λ n. holds_run run (record_at row n)) (walk way number (records_left way (record_count row.head) number))
+    (each_filter (IsUpTo (record_count row.head)) (λ n. holds_run run (record_bytes row n)) (walk way number (records_left way (record_count row.head) number))
     (walk_up_to way (record_count row.head) number there.first (up_to_count row number there)))
 
-pub length-bytes_of : (k n : ℕ) → length (bytes_of k n) ≡ k
-length-bytes_of zero n = refl
-length-bytes_of (suc k) n = ap suc (length-bytes_of k (n % 256 ^ k))
+pub length-number_bytes : (k n : ℕ) → length (number_bytes k n) ≡ k
+length-number_bytes zero n = refl
+length-number_bytes (suc k) n = ap suc (length-number_bytes k (n % 256 ^ k))
 
 length-sum_of : (number addend sum : List ℕ) → sum_of number addend ≡ Some sum → length sum ≡ length number
-length-sum_of number addend sum e = either (nat_lt (value_of number + value_of addend) (256 ^ length number)) e
+length-sum_of number addend sum e = either (nat_lt (number_of number + number_of addend) (256 ^ length number)) e
   where
-    either : (fits : Bool) → cond fits (Some (bytes_of (length number) (value_of number + value_of addend))) None ≡ Some sum → length sum ≡ length number
+    either : (fits : Bool) → cond fits (Some (number_bytes (length number) (number_of number + number_of addend))) None ≡ Some sum → length sum ≡ length number
     either true f =
-        let same : bytes_of (length number) (value_of number + value_of addend) ≡ sum = cc in
-        ap length (sym same) ∙ length-bytes_of (length number) (value_of number + value_of addend)
+        let same : number_bytes (length number) (number_of number + number_of addend) ≡ sum = cc in
+        ap length (sym same) ∙ length-number_bytes (length number) (number_of number + number_of addend)
     either false f = absurd (cc)
 
-length-first : (row : FileRow) → HoldsWholeRecords row → HasRecord row.head 1 → length (record_at row 1) ≡ row.head.record_len
+length-first : (row : FileRow) → HoldsWholeRecords row → HasRecord row.head 1 → length (record_bytes row 1) ≡ row.head.record_len
 length-first row whole first =
     length-take-le row.head.record_len (drop ((1 - 1) * row.head.record_len) row.body)
     (omega (arith, length-drop ((1 - 1) * row.head.record_len) row.body, first.last, whole.body))
@@ -124,11 +124,11 @@ module _ (content : Content) (valid : IsValid content) (session : Session) (suit
       let among : IsAmong content.rows row = named_among content.rows (open_channel session c.channel) file row (apart_rows content valid) named in
       let is : IsRow row = row_is content.rows (are_rows content valid) row.head.path row among in
       let first : HoldsWholeRecords row × HasRecord row.head 1 = first_record row is kind in
-      let exact : (o : Option (List ℕ)) → sum_of (record_at row 1) c.body ≡ o → IfSome o (λ sum. length sum ≡ row.head.record_len)
-      = λ o. elim o as (λ o. sum_of (record_at row 1) c.body ≡ o → IfSome o (λ sum. length sum ≡ row.head.record_len)) [
+      let exact : (o : Option (List ℕ)) → sum_of (record_bytes row 1) c.body ≡ o → IfSome o (λ sum. length sum ≡ row.head.record_len)
+      = λ o. elim o as (λ o. sum_of (record_bytes row 1) c.body ≡ o → IfSome o (λ sum. length sum ≡ row.head.record_len)) [
         | None ↦ λ e. tt
-        | Some sum ↦ λ e. length-sum_of (record_at row 1) c.body sum e ∙ length-first row first.0 first.1
+        | Some sum ↦ λ e. length-sum_of (record_bytes row 1) c.body sum e ∙ length-first row first.0 first.1
       ] in
-      gives_sum row (sum_of (record_at row 1) c.body) channel among (bare_records row.head.kind (cyclic_has row.head.kind kind)) (cyclic_kind row.head.kind kind) first.1
-      (exact (sum_of (record_at row 1) c.body) refl)
-      (first_none _ _ (rest_none (refused_unless (can_be_added (record_at row 1) c.body) WRONG_LENGTH) _ own))))
+      gives_sum row (sum_of (record_bytes row 1) c.body) channel among (bare_records row.head.kind (cyclic_has row.head.kind kind)) (cyclic_kind row.head.kind kind) first.1
+      (exact (sum_of (record_bytes row 1) c.body) refl)
+      (first_none _ _ (rest_none (refused_unless (can_be_added (record_bytes row 1) c.body) WRONG_LENGTH) _ own))))

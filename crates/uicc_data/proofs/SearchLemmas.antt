@@ -9,7 +9,7 @@ use Rattle.uicc_channels.specs.Delivery.{waiting}
 use Rattle.uicc_channels.specs.Session.{IsOpen, channel_at, with_channel}
 use Rattle.uicc_channels.specs.declared.chan.Chan.{Chan}
 use Rattle.uicc_channels.specs.declared.session.Session.{Session}
-use Rattle.uicc_data.specs.RecordWalk.{record_at}
+use Rattle.uicc_data.specs.RecordWalk.{record_bytes}
 use Rattle.uicc_data.specs.Search.{after_steps, found_among, holds_run, walk}
 use Rattle.uicc_data.specs.declared.search.Direction.{Direction}
 use Rattle.uicc_data.specs.declared.search.Direction.TheVariants.{Forwards, Backwards}
@@ -43,8 +43,8 @@ walk_next Backwards number steps more = let same : number - steps - 1 ≡ number
 
 -- the first of some numbers comes first where its record is found
 found_first : (row : FileRow) (run : List ℕ) (number : ℕ) (rest : List ℕ)
-    → found_among row run (number ∷ rest) ≡ cond (holds_run run (record_at row number)) (number ∷ []) [] ++ found_among row run rest
-found_first row run number rest = either (holds_run run (record_at row number))
+    → found_among row run (number ∷ rest) ≡ cond (holds_run run (record_bytes row number)) (number ∷ []) [] ++ found_among row run rest
+found_first row run number rest = either (holds_run run (record_bytes row number))
   where
     either : (b : Bool) → cond b (number ∷ found_among row run rest) (found_among row run rest) ≡ cond b (number ∷ []) [] ++ found_among row run rest
     either true = refl
@@ -52,7 +52,7 @@ found_first row run number rest = either (holds_run run (record_at row number))
 
 -- one more record is looked at
 pub found_more : (row : FileRow) (run : List ℕ) (way : Direction) (number steps left : ℕ) (found : List ℕ) → steps < left
-    → (found ++ cond (holds_run run (record_at row (after_steps way number steps))) (after_steps way number steps ∷ []) [])
+    → (found ++ cond (holds_run run (record_bytes row (after_steps way number steps))) (after_steps way number steps ∷ []) [])
     ++ found_among row run (walk way (after_steps way number (steps + 1)) (left - (steps + 1)))
     ≡ found ++ found_among row run (walk way (after_steps way number steps) (left - steps))
 found_more row run way number steps left found below =

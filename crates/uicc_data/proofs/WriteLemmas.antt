@@ -6,14 +6,14 @@ use Rattle.file_rows.specs.Change.{with_body, with_record}
 use Rattle.file_rows.specs.FileHead.{HasRecord}
 use Rattle.file_rows.specs.declared.row.FileRow.{FileRow}
 use Rattle.uicc_data.proofs.ReadBackLemmas.{bytes_back}
-use Rattle.uicc_data.specs.RecordWalk.{record_at}
+use Rattle.uicc_data.specs.RecordWalk.{record_bytes}
 
 one_more : (k len : ℕ) → suc k * len ≡ k * len + len
 one_more k len = grind arith
 
 -- the record that was written
 pub record_written : (row : FileRow) (number : ℕ) (bytes : List ℕ) → length row.body ≡ row.head.size → HasRecord row.head number → length bytes ≡ row.head.record_len
-    → record_at (with_body (with_record number bytes) row) number ≡ bytes
+    → record_bytes (with_body (with_record number bytes) row) number ≡ bytes
 record_written row zero bytes whole has exact = absurd (omega (arith, has.first))
 record_written row (suc k) bytes whole has exact =
     let before : suc k - 1 ≡ k = omega arith in
@@ -21,7 +21,7 @@ record_written row (suc k) bytes whole has exact =
     rw (before, ← exact) (bytes_back row.body (k * length bytes) bytes inside)
 
 -- a new first record
-pub first_written : (row : FileRow) (bytes : List ℕ) → length bytes ≡ row.head.record_len → record_at (with_body (with_record 0 bytes) row) 1 ≡ bytes
+pub first_written : (row : FileRow) (bytes : List ℕ) → length bytes ≡ row.head.record_len → record_bytes (with_body (with_record 0 bytes) row) 1 ≡ bytes
 first_written row bytes exact =
     let none : (1 - 1) * row.head.record_len ≡ 0 = omega arith in
     rw (none, ← exact) (take-append_seam bytes (take (length row.body - length bytes) row.body))
@@ -42,7 +42,7 @@ cut_part xs from len upto inside =
 
 -- and each other one is one further
 pub later_written : (row : FileRow) (number : ℕ) (bytes : List ℕ) → length row.body ≡ row.head.size → HasRecord row.head (number + 1) → 1 ≤ number → length bytes ≡ row.head.record_len
-    → record_at (with_body (with_record 0 bytes) row) (number + 1) ≡ record_at row number
+    → record_bytes (with_body (with_record 0 bytes) row) (number + 1) ≡ record_bytes row number
 later_written row zero bytes whole has some exact = absurd (omega (arith, some))
 later_written row (suc k) bytes whole has some exact =
     let len : ℕ = row.head.record_len in

@@ -19,7 +19,7 @@ use Rattle.uicc_data.specs.FileUse.{FileUse, needs_of_writing, on_named, where_n
 use Rattle.uicc_data.specs.Number.{sum_of}
 use Rattle.uicc_data.specs.Record.{RecordUse, new_first_record}
 use Rattle.uicc_data.specs.RecordKind.{is_cyclic}
-use Rattle.uicc_data.specs.RecordWalk.{record_at}
+use Rattle.uicc_data.specs.RecordWalk.{record_bytes}
 use Rattle.uicc_data.specs.declared.reference.FileReference.{FileReference}
 use Rattle.uicc_data.specs.declared.reference.FileReference.TheVariants.{CurrentEf, Sfi}
 
@@ -51,7 +51,7 @@ giving_sum session c path (Some sum) =
 
 abbrev pub increasing : Session → Apdu → FileRow → FileUse
 increasing session c row =
-    let number = record_at row 1 in
+    let number = record_bytes row 1 in
     let usage = giving_sum session c row.head.path (sum_of number c.body) in
     record {
       kind = is_cyclic row.head.kind;
@@ -62,7 +62,8 @@ increasing session c row =
     }
 
 -- INCREASE
-abbrev pub increase_row : List FileRow → (List ℕ → Mode → Bool) → Session → Apdu → CommandRow
+abbrev pub increase_row : List FileRow → (List ℕ → Mode → Bool) → Session → Apdu
+    → CommandRow
 increase_row rows allowed session c =
     let needs = needs_of_writing session c in
     where_named needs session

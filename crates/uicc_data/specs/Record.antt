@@ -20,7 +20,7 @@ use Rattle.uicc_channels.specs.declared.session.Session.{Session}
 use Rattle.uicc_data.specs.FileReference.{pointer_at, using}
 use Rattle.uicc_data.specs.FileUse.{FileUse, needs_of_reading, needs_of_writing, on_named, where_named}
 use Rattle.uicc_data.specs.RecordKind.{has_records, is_cyclic}
-use Rattle.uicc_data.specs.RecordWalk.{pointer_after, record_at, record_in}
+use Rattle.uicc_data.specs.RecordWalk.{pointer_after, record_bytes, record_in}
 use Rattle.uicc_data.specs.declared.walk.RecordName.{RecordName}
 use Rattle.uicc_data.specs.declared.walk.RecordName.TheVariants.{Next, Previous, Absolute, Current}
 use Rattle.uicc_data.specs.declared.record_update.WritePlace.{WritePlace}
@@ -76,9 +76,9 @@ reading_number session c place row number =
     let before = pointer_at (open_channel session c.channel) place.file in
     let after = pointer_after before place.name number in
     record {
-      own = le_refusal c.le (record_at row number);
+      own = le_refusal c.le (record_bytes row number);
       done = record {
-        answer = record { body = record_at row number; sw = OK };
+        answer = record { body = record_bytes row number; sw = OK };
         session = using session c.channel row.head.path after;
         change = None;
       };
@@ -145,7 +145,8 @@ writing_record session c place row =
     }
 
 -- READ RECORD
-abbrev pub read_record_row : List FileRow → (List ℕ → Mode → Bool) → Session → Apdu → CommandRow
+abbrev pub read_record_row : List FileRow → (List ℕ → Mode → Bool) → Session → Apdu
+    → CommandRow
 read_record_row rows allowed session c =
     let needs = needs_of_reading session c in
     where_named needs session
@@ -153,7 +154,8 @@ read_record_row rows allowed session c =
     (record_place c.p1 c.p2)
 
 -- UPDATE RECORD
-abbrev pub update_record_row : List FileRow → (List ℕ → Mode → Bool) → Session → Apdu → CommandRow
+abbrev pub update_record_row : List FileRow → (List ℕ → Mode → Bool) → Session
+    → Apdu → CommandRow
 update_record_row rows allowed session c =
     let needs = needs_of_writing session c in
     where_named needs session

@@ -16,7 +16,7 @@ use Rattle.uicc_data.specs.FileReference.{pointer_at, using}
 use Rattle.uicc_data.specs.FileUse.{FileUse, needs_of_writing, on_named, where_named}
 use Rattle.uicc_data.specs.Record.{RecordUse, at_record, numbered, record_file}
 use Rattle.uicc_data.specs.RecordKind.{has_records}
-use Rattle.uicc_data.specs.RecordWalk.{record_at, record_count, record_in}
+use Rattle.uicc_data.specs.RecordWalk.{record_bytes, record_count, record_in}
 use Rattle.uicc_data.specs.declared.search.Direction.{Direction}
 use Rattle.uicc_data.specs.declared.search.Direction.TheVariants.{Forwards, Backwards}
 use Rattle.uicc_data.specs.declared.search.SearchPlace.{SearchPlace}
@@ -70,7 +70,7 @@ holds_run run (b ∷ bytes) = starts_with nat_eq (b ∷ bytes) run || holds_run 
 
 -- those of the records that hold the bytes as a run
 abbrev pub found_among : FileRow → List ℕ → List ℕ → List ℕ
-found_among row run numbers = filter (λ number. holds_run run (record_at row number)) numbers
+found_among row run numbers = filter (λ number. holds_run run (record_bytes row number)) numbers
 
 -- the records found from one on to the end of the file
 abbrev pub found_from : FileRow → List ℕ → Direction → ℕ → List ℕ
@@ -102,7 +102,8 @@ searching session c place row =
     }
 
 -- SEARCH RECORD
-abbrev pub search_record_row : List FileRow → (List ℕ → Mode → Bool) → Session → Apdu → CommandRow
+abbrev pub search_record_row : List FileRow → (List ℕ → Mode → Bool) → Session
+    → Apdu → CommandRow
 search_record_row rows allowed session c =
     let needs = needs_of_writing session c in
     where_named needs session

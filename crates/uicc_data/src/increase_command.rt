@@ -11,12 +11,12 @@ ghost use Rattle.uicc_data.specs.FileUse.{FollowsUse};
 ghost use Rattle.uicc_data.specs.Increase.{can_be_added, giving_sum, increase_file, increase_row, increasing};
 ghost use Rattle.uicc_data.specs.Record.{FollowsRecordUse};
 ghost use Rattle.uicc_data.specs.RecordKind.{is_cyclic};
-ghost use Rattle.uicc_data.specs.RecordWalk.{record_at};
+ghost use Rattle.uicc_data.specs.RecordWalk.{record_bytes};
 
 use crate::delivery::deliver_on;
 use crate::number::sum_of;
 use crate::reference::{FileReference, find_file};
-use crate::walk::{is_cyclic, record_at};
+use crate::walk::{is_cyclic, record_bytes};
 use apdu_codec::{AnswerBody, Command, Sw, class_fits};
 use file_rows::{Change, Mode, Path, Piece};
 use uicc_channels::{Decided, Guard, Session, conclude, require, require_active, require_le};
@@ -85,7 +85,7 @@ fn increase_named(
         (increasing session.now (apdu_of command.now) (file_of tree.now node))
         into.new result }
 {
-    let number = record_at(tree, node, 1);
+    let number = record_bytes(tree, node, 1);
     require(can_be_added(number, command.body), Sw::WRONG_LENGTH)?;
     let Some(sum) = sum_of(number, command.body) else {
         return Err(Sw::MAXIMUM_REACHED);

@@ -15,7 +15,9 @@ ghost use Rattle.uicc_data.specs.RecordKind.{has_records};
 ghost use Rattle.uicc_data.specs.RecordWalk.{IsPointerIn};
 
 use crate::reference::{find_file, pointer_at, use_file};
-use crate::walk::{RecordPlace, find_record, has_records, pointer_after, record_at, record_place};
+use crate::walk::{
+    RecordPlace, find_record, has_records, pointer_after, record_bytes, record_place,
+};
 use apdu_codec::{Command, Sw, class_fits};
 use file_rows::{Mode, Path};
 use uicc_channels::{Decided, Guard, Session, conclude, require, require_active, require_le};
@@ -72,7 +74,7 @@ fn read_named(
     let Some(number) = find_record(tree, node, pointer, place.name) else {
         return Err(Sw::RECORD_NOT_FOUND);
     };
-    let bytes = record_at(tree, node, number);
+    let bytes = record_bytes(tree, node, number);
     let after = pointer_after(pointer, place.name, number);
     give_record(session, command, bytes, &tree.head(node).path, after, into)?;
     Ok(())

@@ -12,13 +12,13 @@ ghost use Rattle.uicc_data.specs.FileReference.{pointer_at, using};
 ghost use Rattle.uicc_data.specs.FileUse.{FollowsUse};
 ghost use Rattle.uicc_data.specs.Record.{FollowsRecordUse};
 ghost use Rattle.uicc_data.specs.RecordKind.{has_records};
-ghost use Rattle.uicc_data.specs.RecordWalk.{IsPointerIn, record_at, record_count};
+ghost use Rattle.uicc_data.specs.RecordWalk.{IsPointerIn, record_bytes, record_count};
 ghost use Rattle.uicc_data.specs.Search.{after_steps, direction_of, first_one, found_from, giving_numbers, holds_run, records_left, search_place, search_record_row, search_start, searching};
 
 use crate::delivery::deliver_on;
 use crate::reference::{FileReference, find_file, pointer_at};
 use crate::walk::{
-    RecordName, find_record, has_records, numbered, record_at, record_count, record_file,
+    RecordName, find_record, has_records, numbered, record_bytes, record_count, record_file,
 };
 use apdu_codec::{Command, Sw, class_fits};
 use file_rows::{Mode, Path};
@@ -155,7 +155,7 @@ fn find_from(tree: &Tree, node: u32, direction: Direction, number: u8, run: &[u8
     let mut found = Numbers::new();
     for steps in 0..left {
         let at = after_steps(direction, count, number, steps);
-        let holds = holds_run(record_at(tree, node, at), run);
+        let holds = holds_run(record_bytes(tree, node, at), run);
         push_if(&mut found, holds, at);
     }
     found

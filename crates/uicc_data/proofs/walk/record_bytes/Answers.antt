@@ -1,7 +1,7 @@
 use Rattle.uicc_tree.specs.Change.{IsRow}
 use Rattle.uicc_tree.specs.Files.{file_of}
 use Rattle.uicc_data.proofs.RecordLemmas.{live_is_row}
-use Rattle.uicc_data.proofs.walk.record_at.Goals as goal
+use Rattle.uicc_data.proofs.walk.record_bytes.Goals as goal
 
 pub record_of-requires-clause-last : goal.record_of-requires-clause-last
 record_of-requires-clause-last c =
