@@ -35,7 +35,7 @@ measure() {
 }
 
 echo "instructions a command:"
-measure 'SELECT with P2 0C and READ BINARY in turn' 2000 00A4000C022FE2 00B000000A
+measure 'SELECT with P2 0C and READ BINARY in turn' 2500 00A4000C022FE2 00B000000A
 measure 'an unknown instruction' 1400 0084000008
 measure 'SELECT with control parameters' 3000 00A40004022FE200
 exit "$above"

@@ -1,5 +1,5 @@
 //! What holds of access rules, whoever reads them.
-ghost use Rattle.std.specs.Prelude.{◌≡◌, ◌↔◌, ℕ, Bool, true, false, IsTrue, List, Some};
+ghost use Rattle.std.specs.Prelude.{◌≡◌, ◌↔◌, ℕ, Bool, true, false, IsTrue, List, Some, IfSome, Contains};
 ghost use Rattle.file_rows.specs.Content.{file_at};
 ghost use Rattle.file_rows.specs.declared.content.Content.{Content};
 ghost use Rattle.file_rows.specs.declared.mode.Mode.{Mode};
@@ -47,4 +47,10 @@ pub fn met_by_the_nearest_pin()
     ensures { (pins others : List PinRow) (verified : ℕ → Bool) (directory : List ℕ) (key : ℕ)
         → pin_for pins directory key ≡ pin_for others directory key
         → met pins verified directory key ≡ met others verified directory key }
+{}
+
+/// The PIN that is found for a key is one of the card's.
+pub fn a_pin_found_is_one_of_them()
+    ensures { (pins : List PinRow) (directory : List ℕ) (key : ℕ)
+        → IfSome (pin_for pins directory key) (Contains pins) }
 {}

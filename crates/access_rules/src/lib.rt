@@ -14,10 +14,10 @@ pub use fault::RuleFault;
 pub use file_rows::Mode;
 pub use key_set::KeySet;
 pub use laws::{
-    always_and_never, answers_by_the_record_named, met_by_the_nearest_pin, more_keys_allow_no_less,
-    records_have_one_meaning,
+    a_pin_found_is_one_of_them, always_and_never, answers_by_the_record_named,
+    met_by_the_nearest_pin, more_keys_allow_no_less, records_have_one_meaning,
 };
-pub use met::met_keys;
+pub use met::{met_keys, pin_for};
 pub use rules::{Rules, read_rules, record_allows};
 
 #[cfg(test)]

@@ -1,10 +1,10 @@
 //! Which keys the PINs of a card meet.
-ghost use Rattle.std.specs.Prelude.{◌≡◌, ℕ, option_map, unwrap_or};
+ghost use Rattle.std.specs.Prelude.{◌≡◌, ℕ, option_copied, option_map, unwrap_or};
 ghost use Rattle.access_rules.specs.KeySet.{has};
-ghost use Rattle.access_rules.specs.Met.{counts, is_set, met, pin_at};
+ghost use Rattle.access_rules.specs.Met.{counts, is_set, met, pin_at, pin_for};
 
 use crate::KeySet;
-use file_rows::{Path, PinRow};
+use file_rows::PinRow;
 
 fn is_set(verified: u32, number: u8) -> bool
     ensures { result ≡ is_set verified number }
@@ -38,14 +38,34 @@ fn put_keys_at(keys: &mut KeySet, pins: &[PinRow], home: &[u16], verified: u32)
 /// whose nearest PIN is disabled, or verified by its bit, which is bit `number - 1` (ETSI TS 102
 /// 221, PIN and key references). It goes through the PINs once for each directory on the path, at
 /// most five times.
-pub fn met_keys(pins: &[PinRow], directory: &Path, verified: u32) -> KeySet
+pub fn met_keys(pins: &[PinRow], directory: &[u16], verified: u32) -> KeySet
     ensures { (key : ℕ) → has result key ≡ met pins.now (is_set verified) directory.now key }
 {
     let mut keys = KeySet::none();
     put_keys_at(&mut keys, pins, &[], verified);
-    let path = directory.as_slice();
-    for depth in 0..path.len() {
-        put_keys_at(&mut keys, pins, &path[..depth + 1], verified);
+    for depth in 0..directory.len() {
+        put_keys_at(&mut keys, pins, &directory[..depth + 1], verified);
     }
     keys
+}
+
+// The PIN of a key that is at home in this directory.
+fn pin_at<'a>(pins: &'a [PinRow], home: &[u16], key: u8) -> Option<&'a PinRow>
+    ensures { option_copied result ≡ pin_at pins.now key home.now }
+{
+    pins.iter()
+        .find(|pin| pin.home.as_slice() == home && pin.key == key)
+}
+
+/// The PIN of a key, found from this directory upwards: the nearest one (ETSI TS 102 221, PIN and
+/// key references). It goes through the PINs once for each directory on the path, at most five
+/// times.
+pub fn pin_for<'a>(pins: &'a [PinRow], directory: &[u16], key: u8) -> Option<&'a PinRow>
+    ensures { option_copied result ≡ pin_for pins.now directory.now key }
+{
+    if let Some(pin) = pin_at(pins, directory, key) {
+        return Some(pin);
+    }
+    let (_, above) = directory.split_last()?;
+    pin_for(pins, above, key)
 }

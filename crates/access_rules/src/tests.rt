@@ -163,8 +163,30 @@ fn keys_are_met_from_the_directory_upwards(rt: HostRuntime) {
         (Path::from_slice(&[0x7F10, 0x5F3A]), 0b00010, 0x81, false),
     ];
     for (directory, verified, key, expected) in cases {
-        let met = met_keys(&pins, &directory, verified);
+        let met = met_keys(&pins, directory.as_slice(), verified);
         assert_eq!(rt; met.has(key), expected);
+    }
+}
+
+#[test]
+fn the_nearest_pin_of_a_key_is_found(rt: HostRuntime) {
+    let pins = [
+        pin(1, Path::new(), 0x01, true),
+        pin(2, Path::from_slice(&[0x7F20]), 0x81, true),
+        pin(3, Path::from_slice(&[0x7F10]), 0x81, true),
+        pin(4, Path::from_slice(&[0x7F10, 0x5F3A]), 0x81, true),
+    ];
+    let cases: [(Path, u8, Option<u8>); 6] = [
+        (Path::from_slice(&[0x7F10, 0x5F3A]), 0x01, Some(1)),
+        (Path::from_slice(&[0x7F10, 0x5F3A]), 0x81, Some(4)),
+        (Path::from_slice(&[0x7F10, 0x5F3B]), 0x81, Some(3)),
+        (Path::from_slice(&[0x7F10]), 0x81, Some(3)),
+        (Path::new(), 0x81, None),
+        (Path::from_slice(&[0x7F30]), 0x81, None),
+    ];
+    for (directory, key, expected) in cases {
+        let found = pin_for(&pins, directory.as_slice(), key);
+        assert_eq!(rt; found.map(|pin| pin.number), expected);
     }
 }
 
@@ -175,4 +197,5 @@ fn the_laws_are_callable() {
     always_and_never();
     answers_by_the_record_named();
     met_by_the_nearest_pin();
+    a_pin_found_is_one_of_them();
 }

@@ -45,10 +45,21 @@ impl Notes {
         ensures { IfOk result (λ notes. notes ≡ record { list = list.now; next = next }) }
     {
         let mut notes = Notes::new(alloc, next)?;
-        for note in list {
-            notes.push(note.copy());
-        }
+        notes.replace(list, next);
         Ok(notes)
+    }
+
+    /// These notifications in place of those that were pending; the next one has this sequence
+    /// number. It takes no memory.
+    pub fn replace(&mut self, list: &[Note], next: u64)
+        requires { length list.now ≤ 256 }
+        ensures { self.new ≡ record { list = list.now; next = next } }
+    {
+        self.list.clear();
+        self.next = next;
+        for note in list {
+            self.push(note.copy());
+        }
     }
 
     // Adds a notification as it is.

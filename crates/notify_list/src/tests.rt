@@ -22,6 +22,9 @@ fn notifications_are_numbered_added_and_taken_away(rt: HostRuntime) -> Result<()
         assert_eq!(rt; note.iccid, ICCID);
         assert_eq!(rt; note.address.as_slice(), b"b.example".as_slice());
     }
+    notes.replace(&[], 20);
+    assert!(rt; notes.list().is_empty());
+    assert_eq!(rt; notes.next(), 20);
     let full = Notes::new(rt.alloc(), 4_294_967_295)?;
     assert!(rt; full.room(1));
     assert!(rt; !full.room(2));

@@ -1,5 +1,8 @@
+pub mod ClosedLemmas
 pub mod FollowLemmas
+pub mod GuardLemmas
 pub mod OwnLemmas
+pub mod PinCommandLemmas
 pub mod PinLemmas
 pub mod RunLemmas
 pub mod SampleLemmas

@@ -1,4 +1,6 @@
-use Rattle.std.proofs.Common.{◌≡◌, ℕ, Bool, false, List, sym, ◌∙◌, ap, subst, Option, Some, None, IfSome, inl, inr}
+use Rattle.std.proofs.Common.{◌≡◌, ℕ, ◌-◌, Bool, false, List, sym, ◌∙◌, ap, subst, Option, Some, None, IfSome, inl, inr}
+use Rattle.std.proofs.lemmas.Nat.Bits.{bit_at-zero}
+use Rattle.std.specs.Prelude.{◌==◌}
 use Rattle.apdu_codec.specs.Command.{Apdu, Spells, refusal}
 use Rattle.file_rows.specs.Change.{Fits}
 use Rattle.file_rows.specs.Content.{IsValid}
@@ -6,11 +8,13 @@ use Rattle.file_rows.specs.declared.change.Change.{Change}
 use Rattle.uicc_channels.proofs.SessionLemmas.{Suits-fresh_session}
 use Rattle.uicc_channels.specs.CommandOutcome.{CommandOutcome, refused}
 use Rattle.uicc_channels.specs.Session.{fresh_session}
+use Rattle.uicc_channels.specs.Verified.{is_verified}
 use Rattle.uicc_channels.specs.declared.decided.Decided.{Decided}
+use Rattle.uicc_data.specs.CarriesOut.{content_after}
 use Rattle.profile_card.proofs.FollowLemmas.{MayFollow-decision}
-use Rattle.profile_card.specs.Card.{Card, IsSound, MayFollow, card_after, content_after, outcome_at, settled}
+use Rattle.profile_card.specs.Card.{Card, IsSound, MayFollow, card_after, outcome_at, settled}
 use Rattle.profile_card.specs.Commands.{decision}
-use Rattle.profile_card.specs.Step.{Event, Outcome, Responds, Steps, StepsAt, carried_out, restarted}
+use Rattle.profile_card.specs.Step.{Event, Outcome, Responds, Steps, StepsAt, carried_out, restarted, silent}
 use Rattle.profile_card.specs.Step.Event.{Command, Reset, Power, Bound, Unbound}
 
 -- a decision on a command that is carried out is what the card responds
@@ -58,3 +62,30 @@ module _ (card : Card) (sound : IsSound card) where
   -- each event leaves a sound card
   pub IsSound-Steps : (event : Event) (outcome : Outcome) → Steps card event outcome → IsSound outcome.card
   IsSound-Steps event outcome h = IsSound-StepsAt card.port event outcome h
+
+-- in a fresh session nothing is verified
+unverified : (refresh : Bool) (kept : Option ℕ) (number : ℕ) → is_verified (fresh_session refresh kept).verified number ≡ false
+unverified refresh None number = ap (λ bit. bit == 1) (bit_at-zero (number - 1))
+unverified refresh (Some channel) number = ap (λ bit. bit == 1) (bit_at-zero (number - 1))
+
+unverified_in : (card after : Card) (outcome : Outcome) (number : ℕ) → is_verified after.session.verified number ≡ false → outcome ≡ silent after
+    → is_verified outcome.card.session.verified number ≡ false
+unverified_in card after outcome number none is = ap (λ (o : Outcome). is_verified o.card.session.verified number) is ∙ none
+
+-- nor is it after what ends a session
+pub unverified-Reset : (card : Card) (port number : ℕ) (outcome : Outcome) → card.port ≡ Some port → Steps card Reset outcome → is_verified outcome.card.session.verified number ≡ false
+unverified-Reset card port number outcome at steps =
+    unverified_in card (restarted card) outcome number (unverified false None number) (subst (λ (from : Option ℕ). StepsAt from card Reset outcome) at steps)
+
+pub unverified-Power : (card : Card) (port number : ℕ) (outcome : Outcome) → card.port ≡ Some port → Steps card Power outcome → is_verified outcome.card.session.verified number ≡ false
+unverified-Power card port number outcome at steps =
+    unverified_in card (restarted card) outcome number (unverified false None number) (subst (λ (from : Option ℕ). StepsAt from card Power outcome) at steps)
+
+pub unverified-Bound : (card : Card) (port number : ℕ) (refresh : Bool) (kept : Option ℕ) (outcome : Outcome) → Steps card (Bound port refresh kept) outcome
+    → is_verified outcome.card.session.verified number ≡ false
+unverified-Bound card port number refresh kept outcome steps =
+    unverified_in card (record card { session = fresh_session refresh kept; port = Some port }) outcome number (unverified refresh kept number) (bound card.port steps)
+  where
+    bound : (from : Option ℕ) → StepsAt from card (Bound port refresh kept) outcome → outcome ≡ silent (record card { session = fresh_session refresh kept; port = Some port })
+    bound None h = h
+    bound (Some at) h = h

@@ -1,7 +1,7 @@
-use Rattle.std.specs.Prelude.{ℕ, Bool, false, Option, Some, None, IfSome, option_map, unwrap_or}
-use Rattle.file_rows.specs.Change.{Fits, changed}
+use Rattle.std.specs.Prelude.{ℕ, Bool, false, Option, List, option_map, unwrap_or}
+use Rattle.access_rules.specs.Met.{allowed, is_set}
 use Rattle.file_rows.specs.Content.{IsValid}
-use Rattle.file_rows.specs.declared.change.Change.{Change}
+use Rattle.file_rows.specs.declared.mode.Mode.{Mode}
 use Rattle.file_rows.specs.declared.content.Content.{Content}
 use Rattle.port_table.specs.PortMode.{has_isdr}
 use Rattle.port_table.specs.declared.port_mode.PortMode.{PortMode}
@@ -9,6 +9,7 @@ use Rattle.uicc_channels.specs.CommandOutcome.{CommandOutcome, outcome_of}
 use Rattle.uicc_channels.specs.Session.{Suits}
 use Rattle.uicc_channels.specs.declared.decided.Decided.{Decided}
 use Rattle.uicc_channels.specs.declared.session.Session.{Session}
+use Rattle.uicc_data.specs.CarriesOut.{CanCarryOut, content_after}
 
 -- a card of one profile: what it holds, its session, how the ports are shared, and its port, where
 -- it stands on one
@@ -22,25 +23,22 @@ pub record Card : Type 0 where
 abbrev pub isdr_here : Card → Bool
 isdr_here card = unwrap_or (option_map (has_isdr card.mode) card.port) false
 
+-- what the access rules of the card allow in its session
+abbrev pub allowed_at : Card → List ℕ → Mode → Bool
+allowed_at card path mode = allowed card.content (is_set card.session.verified) path mode
+
 -- the card holds what a card may hold, and its session names what is there
 pub record IsSound (card : Card) : Type 0 where
   pub content : IsValid card.content
   pub session : Suits card.session card.content.rows
 
--- a content with a change made, where there is one
-abbrev pub content_after : Content → Option Change → Content
-content_after content None = content
-content_after content (Some change) = changed content change
-
 -- what a decision comes to at a card
 abbrev pub outcome_at : Card → Decided → CommandOutcome
 outcome_at card decided = outcome_of card.session decided
 
--- a card may follow what a command comes to: the change fits it, and the session suits what it
--- then holds
-pub record MayFollow (card : Card) (outcome : CommandOutcome) : Type 0 where
-  pub change : IfSome outcome.change (Fits card.content)
-  pub session : Suits outcome.session (content_after card.content outcome.change).rows
+-- a card may follow what a command comes to
+abbrev pub MayFollow : Card → CommandOutcome → Type 0
+MayFollow card outcome = CanCarryOut card.content outcome
 
 -- the card once what a command comes to is carried out
 abbrev pub card_after : Card → CommandOutcome → Card

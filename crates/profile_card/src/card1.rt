@@ -6,25 +6,29 @@ ghost use Rattle.uicc_channels.specs.CommandOutcome.{outcome_of};
 ghost use Rattle.uicc_channels.specs.CommandRow.{decided};
 ghost use Rattle.uicc_channels.specs.Session.{IsOpen, Suits, fresh_session, open_channel};
 ghost use Rattle.uicc_channels.specs.declared.session.TheConstants.{CHANNELS};
+ghost use Rattle.uicc_data.specs.Data.{IsOnData, data_row};
 ghost use Rattle.uicc_select.specs.Select.{select_row};
 ghost use Rattle.uicc_select.specs.Status.{status_row};
 ghost use Rattle.uicc_tree.specs.Change.{HasRoom};
 ghost use Rattle.uicc_tree.specs.Files.{rows_of};
-ghost use Rattle.profile_card.specs.Card.{MayFollow, isdr_here, outcome_at, settled};
+ghost use Rattle.profile_card.specs.Card.{MayFollow, allowed_at, isdr_here, outcome_at, settled};
 ghost use Rattle.profile_card.specs.CardState.{HasRoomFor, TakesRoom, card_of, content_of};
 ghost use Rattle.profile_card.specs.Commands.{IsKnownAt, decision};
+ghost use Rattle.profile_card.specs.PinCommands.{pin_row};
 ghost use Rattle.profile_card.specs.Step.{Steps, silent};
 ghost use Rattle.profile_card.specs.Step.Event.{Bound, Command as CommandBytes, Power, Reset};
 
+use crate::guard::allows;
+use crate::pin_commands::{PinInstruction, answer_pin_command};
 use crate::pins::change_pins;
 use crate::place::Place;
-use crate::read_binary::read_binary;
 use apdu_codec::{Command, Sw, ins};
 use case_table::{case_arms, ins_rows};
-use file_rows::{Change, Content, NoMemory, PinRow, copy_pins};
+use file_rows::{Change, Content, Mode, NoMemory, PinRow, copy_pins};
 use std::alloc::Global;
 use std::marker::Model;
-use uicc_channels::{Decided, Session, fresh};
+use uicc_channels::{Decided, Guard, Session, fresh};
+use uicc_data::data_command;
 use uicc_select::{select, status};
 use uicc_tree::Tree;
 
@@ -37,7 +41,37 @@ macro_rules! instruction {
         $card.status($command, $into)
     };
     (0xB0, $class:tt, ($card:expr, $command:expr, $into:expr)) => {
-        read_binary(&$card.tree, &$card.session, $command, $into)
+        $card.data($command, $into)
+    };
+    (0xD6, $class:tt, ($card:expr, $command:expr, $into:expr)) => {
+        $card.data($command, $into)
+    };
+    (0xB2, $class:tt, ($card:expr, $command:expr, $into:expr)) => {
+        $card.data($command, $into)
+    };
+    (0xDC, $class:tt, ($card:expr, $command:expr, $into:expr)) => {
+        $card.data($command, $into)
+    };
+    (0xA2, $class:tt, ($card:expr, $command:expr, $into:expr)) => {
+        $card.data($command, $into)
+    };
+    (0x32, $class:tt, ($card:expr, $command:expr, $into:expr)) => {
+        $card.data($command, $into)
+    };
+    (0x20, $class:tt, ($card:expr, $command:expr, $into:expr)) => {
+        $card.pin_command(PinInstruction::Verify, $command, $into)
+    };
+    (0x24, $class:tt, ($card:expr, $command:expr, $into:expr)) => {
+        $card.pin_command(PinInstruction::Change, $command, $into)
+    };
+    (0x26, $class:tt, ($card:expr, $command:expr, $into:expr)) => {
+        $card.pin_command(PinInstruction::Disable, $command, $into)
+    };
+    (0x28, $class:tt, ($card:expr, $command:expr, $into:expr)) => {
+        $card.pin_command(PinInstruction::Enable, $command, $into)
+    };
+    (0x2C, $class:tt, ($card:expr, $command:expr, $into:expr)) => {
+        $card.pin_command(PinInstruction::Unblock, $command, $into)
     };
     ($ins:tt, $class:tt, ($card:expr, $command:expr, $into:expr)) => {
         $into.set_status(Sw::WRONG_INSTRUCTION)
@@ -74,6 +108,23 @@ impl Model for Card1 {
 
     ghost invariant = { λ c. IsValid (record { rows = rows_of c.tree; pins = c.pins.items })
         × Suits c.session (rows_of c.tree) };
+}
+
+impl Guard for Card1 {
+    ghost use Rattle.access_rules.specs.Met.{allowed, is_set};
+    ghost use Rattle.uicc_tree.specs.Files.{IsLive, path_of};
+    ghost use Rattle.profile_card.specs.CardState.{content_of};
+
+    ghost knows = { λ card node. IsLive card.tree node };
+
+    ghost answer = { λ card node mode session. allowed (content_of card)
+        (is_set session.verified) (path_of card.tree node) mode };
+
+    /// Whether the access rules of the card allow it, where these PINs are verified (ETSI TS 102
+    /// 221, access rules referenced in EF ARR). It reads one record once, and takes no memory.
+    fn allows(&self, node: u32, mode: Mode, session: &Session) -> bool {
+        allows(&self.tree, &self.pins, node, mode, session.verified)
+    }
 }
 
 impl Card1 {
@@ -124,7 +175,8 @@ impl Card1 {
     /// What a command comes to: its answer, what it does to the session, and what it changes in
     /// the content. The card stays as it is; `settle` carries it out.
     ///
-    /// SELECT, STATUS and READ BINARY from an offset (ETSI TS 102 221); any other instruction is
+    /// SELECT, STATUS, the commands on data from READ BINARY to INCREASE, and VERIFY PIN, CHANGE
+    /// PIN, DISABLE PIN, ENABLE PIN and UNBLOCK PIN (ETSI TS 102 221); any other instruction is
     /// answered `6D00`, and so is each but SELECT where the ISD-R is selected on the channel. It
     /// takes no memory, and copies no session.
     pub fn decide(&self, command: &Command) -> Decided
@@ -182,6 +234,26 @@ impl Card1 {
             (apdu_of command.now)) }
     {
         status(&self.tree, &self.pins, &self.session, command, into);
+    }
+
+    fn data(&self, command: &Command, into: &mut Decided)
+        requires open { IsOpen self.now.session command.now.channel }
+        requires spelled { IsCommand command.now }
+        requires instruction { IsOnData command.now.ins }
+        ensures { outcome_of self.now.session into.new ≡ decided self.now.session
+            (data_row (rows_of self.now.tree) (allowed_at (card_of self.now)) self.now.session
+            (apdu_of command.now)) }
+    {
+        data_command(&self.tree, self, &self.session, command, into);
+    }
+
+    fn pin_command(&self, instruction: PinInstruction, command: &Command, into: &mut Decided)
+        requires open { IsOpen self.now.session command.now.channel }
+        requires spelled { IsCommand command.now }
+        ensures { outcome_of self.now.session into.new ≡ decided self.now.session
+            (pin_row instruction self.now.pins self.now.session (apdu_of command.now)) }
+    {
+        answer_pin_command(instruction, &self.pins, &self.session, command, into);
     }
 
     // What a command comes to by its instruction, on an open channel that knows it.

@@ -1,13 +1,15 @@
-ghost use Rattle.std.specs.Prelude.{◌≡◌, ℕ, ◌<◌, ◌^◌, true, List, [], ◌∷◌, Some};
+ghost use Rattle.std.specs.Prelude.{◌≡◌, ℕ, ◌<◌, ◌^◌, Bool, true, false, List, [], ◌∷◌, Option, Some};
 ghost use Rattle.apdu_codec.specs.Command.{Apdu};
 ghost use Rattle.apdu_codec.specs.Sw.{bytes_waiting, tries_left, wrong_le};
 ghost use Rattle.apdu_codec.specs.declared.answers.Answer.{Answer};
 ghost use Rattle.case_table.specs.CaseRows.{value_of};
 ghost use Rattle.uicc_channels.specs.CommandOutcome.{refused};
+ghost use Rattle.uicc_channels.specs.Verified.{is_verified};
 ghost use Rattle.profile_card.specs.Card.{Card, IsSound};
 ghost use Rattle.profile_card.specs.Commands.{decision};
 ghost use Rattle.profile_card.specs.Own.{is_common};
 ghost use Rattle.profile_card.specs.Step.{Event, Outcome, Runs, Steps};
+ghost use Rattle.profile_card.specs.Step.Event.{Bound, Power, Reset};
 ghost use Rattle.profile_card.specs.Tables.{classes_of};
 
 use apdu_codec::Sw;
@@ -35,6 +37,21 @@ pub fn cards_stay_sound()
     ensures { (card : Card) (event : Event) (outcome : Outcome) → IsSound card
         → Steps card event outcome
         → IsSound outcome.card }
+{}
+
+/// What is verified ends with the session: after a reset of its port, a power cycle and a new port
+/// no PIN of the card is verified.
+pub fn verification_ends_with_the_session()
+    ensures reset { (card : Card) (port number : ℕ) (outcome : Outcome) → card.port ≡ Some port
+        → Steps card Reset outcome
+        → is_verified outcome.card.session.verified number ≡ false }
+    ensures power { (card : Card) (port number : ℕ) (outcome : Outcome) → card.port ≡ Some port
+        → Steps card Power outcome
+        → is_verified outcome.card.session.verified number ≡ false }
+    ensures bound { (card : Card) (port number : ℕ) (refresh : Bool) (kept : Option ℕ)
+        (outcome : Outcome)
+        → Steps card (Bound port refresh kept) outcome
+        → is_verified outcome.card.session.verified number ≡ false }
 {}
 
 /// What the common part of an eUICC answers in a card's place is unknown to the card itself: it

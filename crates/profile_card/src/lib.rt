@@ -3,10 +3,11 @@
 #![tactic(auto)]
 
 mod card1;
+mod guard;
 mod laws;
+mod pin_commands;
 mod pins;
 mod place;
-mod read_binary;
 mod sample;
 
 pub use card1::Card1;
@@ -14,7 +15,7 @@ pub use file_rows::NoMemory;
 pub use laws::{
     cards_stay_sound, commands_have_one_run, common_commands_are_unknown_to_the_card,
     events_have_one_outcome, the_table_of_instructions_has_their_classes,
-    the_table_of_status_words_has_each,
+    the_table_of_status_words_has_each, verification_ends_with_the_session,
 };
 pub use place::Place;
 pub use sample::{sample_card, sample_content};

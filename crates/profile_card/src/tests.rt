@@ -18,6 +18,8 @@ use std::alloc::Global;
 use std::test::Fail;
 use uicc_channels::{Decided, SessionChange, fresh};
 
+mod access;
+
 const PORT_1_OF_A1: Place = Place {
     port: 1,
     mode: PortMode::A1,
@@ -174,15 +176,26 @@ fn make_pin(number: u8, key: u8) -> PinRow {
     }
 }
 
-// An MF with three EFs, of which one is deactivated and one terminated, and an application that
-// has an EF too.
+// An MF with an EF ARR and three EFs, of which one is deactivated and one terminated, and an
+// application that has an EF too.
 fn content_with_application(alloc: Global) -> Result<Content, NoMemory> {
     let ef = Kind::Transparent;
     let number = b"\x98\x94\x00\x00\x00\x00\x00\x00\x00\xF2";
     let mut iccid = make_row(alloc, &[0x2FE2], ef, Life::Active, b"", number)?;
     iccid.head.sfi = 2;
+    let read_always = b"\x80\x01\x01\x90\x00";
+    let mut rules = make_row(
+        alloc,
+        &[0x2F06],
+        Kind::Linear,
+        Life::Active,
+        b"",
+        read_always,
+    )?;
+    rules.head.record_len = 5;
     let rows = [
         make_row(alloc, &[], Kind::Master, Life::Active, b"", b"")?,
+        rules,
         iccid,
         make_row(alloc, &[0x6F3A], ef, Life::Deactivated, b"", b"\x01")?,
         make_row(alloc, &[0x6F3B], ef, Life::Terminated, b"", b"\x02")?,
@@ -329,4 +342,15 @@ fn memory_is_reserved_and_a_change_made(rt: HostRuntime) -> Result<(), Fail> {
     ];
     assert_eq!(rt; first_other(&mut card, &rows)?, None);
     Ok(())
+}
+
+#[test]
+fn the_laws_are_callable() {
+    cards_stay_sound();
+    commands_have_one_run();
+    common_commands_are_unknown_to_the_card();
+    events_have_one_outcome();
+    the_table_of_instructions_has_their_classes();
+    the_table_of_status_words_has_each();
+    verification_ends_with_the_session();
 }

@@ -1,6 +1,7 @@
 -- What a record leaves alone.
 use Rattle.std.proofs.Common.{◌≡◌, ℕ, Bool, true, false, cond, not, nat_eq, List, [], ◌∷◌, ◌++◌, length, map, filter, Option, Some, None, refl, sym, ◌∙◌, ap, arith, eqb-true}
 use Rattle.file_rows.specs.declared.content.Content.{Content}
+use Rattle.record_codec.proofs.HeldLemmas.{differ_is, named_number}
 use Rattle.record_codec.specs.Apply.{apply}
 use Rattle.record_codec.specs.Content.{contents_with}
 use Rattle.record_codec.specs.Gone.{contents_without, is_among}
@@ -12,15 +13,6 @@ use Rattle.record_codec.specs.declared.profile.ProfileHead.{ProfileHead}
 use Rattle.record_codec.specs.declared.record.Record.{Record}
 use Rattle.record_codec.specs.declared.record.Record.TheVariants as records
 
-differ : (one other : ℕ) → (one ≡ other → ⊥) → nat_eq one other ≡ false
-differ one other unlike =
-    let step : (b : Bool) → nat_eq one other ≡ b → b ≡ false
-    = λ b. elim b as (λ b. nat_eq one other ≡ b → b ≡ false) [
-      | true ↦ λ is. absurd (unlike (eqb-true one other is))
-      | false ↦ λ is. refl
-    ]
-    in step (nat_eq one other) refl
-
 module _ (number : ℕ) where
   no_content : (heads : List ProfileHead) → content_at number heads [] ≡ None
   no_content [] = refl
@@ -30,7 +22,7 @@ module _ (number : ℕ) where
   put : (heads : List ProfileHead) (contents : List Content) (head : ProfileHead) (content : Content) → length contents ≡ length heads
       → (head.number ≡ number → ⊥)
       → content_at number (heads ++ head ∷ []) (contents ++ content ∷ []) ≡ content_at number heads contents
-  put [] [] head content pairs unlike = rw (differ head.number number unlike) refl
+  put [] [] head content pairs unlike = rw (differ_is head.number number unlike) refl
   put [] (one ∷ contents) head content pairs unlike = absurd (omega (arith, pairs))
   put (one ∷ heads) [] head content pairs unlike = absurd (omega (arith, pairs))
   put (one ∷ heads) (its ∷ contents) head content pairs unlike =
@@ -50,16 +42,10 @@ module _ (number : ℕ) where
       → cond b (Some changed) (content_at number heads after) ≡ cond b (Some content) (content_at number heads contents)) [
         | true ↦ λ is.
             let same : head.number ≡ number = eqb-true head.number number is in
-            ap (λ (b : Bool). Some (cond b (f content) content)) (differ head.number other (λ e. unlike (sym e ∙ same)))
+            ap (λ (b : Bool). Some (cond b (f content) content)) (differ_is head.number other (λ e. unlike (sym e ∙ same)))
         | false ↦ λ is. change other f unlike heads contents
       ]
       in step (nat_eq head.number number) refl
-
-  its_number : (profile : ℕ) (nickname : List ℕ) (head : ProfileHead) → (named profile nickname head).number ≡ head.number
-  its_number profile nickname head =
-      let step : (b : Bool) → (cond b (record head { nickname = nickname }) head).number ≡ head.number
-      = λ b. elim b as (λ b. (cond b (record head { nickname = nickname }) head).number ≡ head.number) [ true ↦ refl | false ↦ refl ]
-      in step (nat_eq head.number profile)
 
   -- a nickname set
   name : (profile : ℕ) (nickname : List ℕ) (heads : List ProfileHead) (contents : List Content)
@@ -67,7 +53,7 @@ module _ (number : ℕ) where
   name profile nickname [] contents = refl
   name profile nickname (head ∷ heads) [] = refl
   name profile nickname (head ∷ heads) (content ∷ contents) =
-      ap (λ (n : ℕ). cond (nat_eq n number) (Some content) (content_at number (map (named profile nickname) heads) contents)) (its_number profile nickname head)
+      ap (λ (n : ℕ). cond (nat_eq n number) (Some content) (content_at number (map (named profile nickname) heads) contents)) (named_number profile nickname head)
       ∙ ap (λ (rest : Option Content). cond (nat_eq head.number number) (Some content) rest) (name profile nickname heads contents)
 
   -- others gone
@@ -86,7 +72,7 @@ module _ (number : ℕ) where
       → content_at number (cond (not b) (head ∷ left) left) (cond b after (content ∷ after))
       ≡ cond (nat_eq head.number number) (Some content) (content_at number heads contents)) [
         | true ↦ λ is.
-            let other : nat_eq head.number number ≡ false = differ head.number number (λ e. unlike (ap (is_among numbers) (sym e) ∙ is)) in
+            let other : nat_eq head.number number ≡ false = differ_is head.number number (λ e. unlike (ap (is_among numbers) (sym e) ∙ is)) in
             rest ∙ sym (ap (λ (b : Bool). cond b (Some content) (content_at number heads contents)) other)
         | false ↦ λ is. ap (λ (r : Option Content). cond (nat_eq head.number number) (Some content) r) rest
       ]

@@ -11,12 +11,12 @@ use Rattle.record_codec.specs.declared.durable.Durable.{Durable}
 use Rattle.record_codec.specs.declared.record.Record.{Record}
 use Rattle.record_codec.specs.declared.record.Record.TheVariants as records
 
-last : {X : Type 0} (P : X → Type 0) (xs : List X) (x : X) → AllByRecursion P (xs ++ x ∷ []) → P x
+pub last : {X : Type 0} (P : X → Type 0) (xs : List X) (x : X) → AllByRecursion P (xs ++ x ∷ []) → P x
 last P [] x each = each.0
 last P (y ∷ xs) x each = last P xs x each.1
 
 -- each file takes at least 32 bytes of the quota
-few : (rows : List FileRow) → 32 * length rows ≤ use_of rows
+pub few : (rows : List FileRow) → 32 * length rows ≤ use_of rows
 few [] = omega arith
 few (row ∷ rows) = omega (arith, few rows, sum_by-cons (λ (r : FileRow). length r.body + 32) row rows)
 
@@ -27,7 +27,7 @@ bodies content valid = ⊎_elim
     valid.system
 
 pub sizes_of : (durable : Durable) (entry : Record) → FitsCard durable entry → HasSizes entry
-sizes_of durable (records.PutCard how ports eid next_number next_note notes) fits = omega (arith, fits.after.notes.few)
+sizes_of durable (records.PutCard how ports eid next_number next_note notes) fits = omega (arith, fits.after.heads.notes.few)
 sizes_of durable (records.PutProfile installation profile port) fits =
     let valid : IsValid profile.content = last IsValid durable.contents profile.content fits.after.contents.valid in
     (omega (arith, valid.quota, few profile.content.rows), omega (arith, valid.few_pins), bodies profile.content valid)

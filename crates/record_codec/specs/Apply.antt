@@ -9,6 +9,7 @@ use Rattle.record_codec.specs.PutCard.{new_card}
 use Rattle.record_codec.specs.PutProfile.{with_profile}
 use Rattle.record_codec.specs.Unbind.{without_binding}
 use Rattle.record_codec.specs.declared.durable.Durable.{Durable}
+use Rattle.record_codec.specs.declared.durable.Heads.{Heads}
 use Rattle.record_codec.specs.declared.record.Record.{Record}
 use Rattle.record_codec.specs.declared.record.Record.TheVariants.{PutCard, PutProfile, Content, Bind, Unbind, Gone, Name, NoteGone}
 
@@ -24,6 +25,10 @@ apply durable (Unbind profile) = without_binding profile durable
 apply durable (Gone profiles) = without_profiles profiles durable
 apply durable (Name profile nickname) = with_nickname profile nickname durable
 apply durable (NoteGone number) = without_note number durable
+
+-- what it holds beside the contents after a record
+abbrev pub heads_after : Heads → Record → Heads
+heads_after heads entry = (apply (record { heads = heads; contents = [] }) entry).heads
 
 -- what it holds after records, in their order
 abbrev pub fold : Durable → List Record → Durable

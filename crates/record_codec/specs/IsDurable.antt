@@ -10,6 +10,7 @@ use Rattle.port_table.specs.declared.port_mode.PortMode.TheVariants.{A1, A2, B}
 use Rattle.port_table.specs.declared.ports.Ports.{Ports}
 use Rattle.record_codec.specs.Heads.{IsHeld}
 use Rattle.record_codec.specs.declared.durable.Durable.{Durable}
+use Rattle.record_codec.specs.declared.durable.Heads.{Heads}
 use Rattle.record_codec.specs.declared.profile.ProfileHead.{ProfileHead}
 
 -- an address: 1 to 64 printable ASCII characters without the space
@@ -54,13 +55,17 @@ pub record AreNotes (notes : NoteList) : Type 0 where
   pub numbers : AllByRecursion (λ note. (1 ≤ note.number) × (note.number ≤ 4294967295)) notes.list
   pub addresses : AllByRecursion (λ note. IsAddress note.address) notes.list
 
+-- what a card holds beside the contents
+pub record AreHeads (heads : Heads) : Type 0 where
+  pub profiles : AreProfiles heads.next_number heads.profiles
+  pub ports : ArePorts heads.profiles heads.ports
+  pub notes : AreNotes heads.notes
+
 -- a content for each profile, and each one valid
 pub record AreContents (durable : Durable) : Type 0 where
   pub pairs : length durable.contents ≡ length durable.heads.profiles
   pub valid : AllByRecursion IsValid durable.contents
 
 pub record IsDurable (durable : Durable) : Type 0 where
-  pub profiles : AreProfiles durable.heads.next_number durable.heads.profiles
-  pub ports : ArePorts durable.heads.profiles durable.heads.ports
-  pub notes : AreNotes durable.heads.notes
+  pub heads : AreHeads durable.heads
   pub contents : AreContents durable

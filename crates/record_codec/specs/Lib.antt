@@ -1,4 +1,6 @@
 pub mod Apply
+pub mod Begin
+pub mod Behind
 pub mod Bind
 pub mod Content
 pub mod Fields
@@ -6,6 +8,7 @@ pub mod FitsCard
 pub mod Returns
 pub mod Gone
 pub mod Heads
+pub mod InPlace
 pub mod IsDurable
 pub mod Local
 pub mod Name
@@ -14,7 +17,9 @@ pub mod Noted
 pub mod PutCard
 pub mod PutProfile
 pub mod Reading
+pub mod Room
 pub mod Sizes
 pub mod Spelling
+pub mod Takes
 pub mod Unbind
 pub mod Window

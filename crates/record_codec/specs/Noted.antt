@@ -1,6 +1,6 @@
 -- The notifications of what is done to a profile (GSMA SGP.22,
 -- NotificationConfigurationInformation).
-use Rattle.std.specs.Prelude.{ℕ, Bool, not, ◌==◌, List, [], ◌∷◌, Option, Some, None, filter, bit_and}
+use Rattle.std.specs.Prelude.{ℕ, Bool, not, ◌==◌, ◌+◌, List, [], ◌∷◌, length, Option, Some, None, filter, bit_and}
 use Rattle.notify_list.specs.Notes.{NoteList, with_note}
 use Rattle.notify_list.specs.declared.note.Operation.{Operation}
 use Rattle.notify_list.specs.declared.note.Operation.TheVariants.{Install, Enable, Disable, Delete}
@@ -39,3 +39,16 @@ abbrev pub noted_each : Operation → List ℕ → List ProfileHead → NoteList
 noted_each operation [] profiles notes = notes
 noted_each operation (number ∷ numbers) profiles notes =
     noted_each operation numbers profiles (noted_where operation (head_of number profiles) notes)
+
+-- how many notifications those of an operation on a profile are
+abbrev pub count_of : Operation → ProfileHead → ℕ
+count_of operation head = length (filter (names operation) head.targets)
+
+abbrev pub count_where : Operation → Option ProfileHead → ℕ
+count_where operation None = 0
+count_where operation (Some head) = count_of operation head
+
+abbrev pub count_of_each : Operation → List ℕ → List ProfileHead → ℕ
+count_of_each operation [] profiles = 0
+count_of_each operation (number ∷ numbers) profiles =
+    count_where operation (head_of number profiles) + count_of_each operation numbers profiles

@@ -1,9 +1,19 @@
 //! What a card holds, and the records of its changes: their effect and their coding.
 #![tactic(auto)]
 
+mod apply;
+mod begin;
+mod content_change;
+mod counts;
 mod durable;
+mod effect;
 mod fault;
+mod file_change;
+mod fits;
 mod laws;
+mod lists;
+mod notes_fit;
+mod noting;
 mod profile;
 mod put;
 mod put_change;
@@ -11,17 +21,22 @@ mod read_fields;
 mod read_files;
 mod reading;
 mod record;
+mod room;
+mod rows;
+mod takes;
 mod window;
 mod writing;
 
 pub use durable::{Durable, Heads, ProfileList};
 pub use fault::RecordFault;
 pub use laws::{
-    codings_are_unique, fitting_records_have_sizes, reading_is_of_codings, records_are_local,
+    codings_are_unique, fitting_records_are_short, fitting_records_have_sizes,
+    reading_is_of_codings, records_are_local, records_fit_by_kind,
 };
 pub use profile::{BoxedProfile, Label, NoteTarget, Profile, ProfileHead, Provider, Targets};
 pub use reading::read_record;
 pub use record::{Numbers, Record};
+pub use room::Room;
 pub use std::alloc::AllocError as NoMemory;
 pub use writing::{put_record, record_len};
 

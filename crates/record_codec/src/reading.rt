@@ -1,5 +1,5 @@
 // Records, read from their bytes.
-ghost use Rattle.std.specs.Prelude.{◌≡◌, ◌≤◌, [], Some, IfOk, IsErrOf};
+ghost use Rattle.std.specs.Prelude.{◌≡◌, ◌≤◌, ◌⊎◌, [], Some, IfOk, IsErrOf};
 ghost use Rattle.std.specs.Int.{w16};
 ghost use Rattle.record_codec.specs.Returns.{Returns};
 ghost use Rattle.record_codec.specs.Reading.{byte_at, file_read, items_at, list_at, mode_of, note_at, number_at, one_at, operation_of, option_at, pin_read, plain_at, profile_head_at, record_read, record_of, target_at};
@@ -349,9 +349,7 @@ fn entry_of(alloc: Global, bytes: &[u8]) -> Result<(Record, &[u8]), RecordFault>
     }
 }
 
-/// The record whose coding these bytes are, all of them. It refuses with NotARecord exactly where
-/// they are no record's coding.
-pub fn read_record(alloc: Global, bytes: &[u8]) -> Result<Record, RecordFault>
+fn whole_of(alloc: Global, bytes: &[u8]) -> Result<Record, RecordFault>
     ensures found { IfOk result (λ entry. Codes bytes.now entry) }
     ensures refused { IsErrOf result RecordFault.NotARecord
         → (entry : Record) → ¬ Codes bytes.now entry }
@@ -361,4 +359,20 @@ pub fn read_record(alloc: Global, bytes: &[u8]) -> Result<Record, RecordFault>
         return Err(RecordFault::NotARecord);
     }
     Ok(entry)
+}
+
+/// The record whose coding these bytes are, all of them. It refuses with NotARecord exactly where
+/// they are no record's coding. Where memory lacks, it may refuse either.
+pub fn read_record(alloc: Global, bytes: &[u8]) -> Result<Record, RecordFault>
+    ensures found { IfOk result (λ entry. Codes bytes.now entry) }
+    ensures refused { IsErrOf result RecordFault.NotARecord
+        → (entry : Record) → ¬ Codes bytes.now entry }
+
+    // The coding of a record gives just that record, any other bytes none.
+    ensures read { (entry : Record) → Codes bytes.now entry
+        → (result ≡ Ok entry) ⊎ (result ≡ Err RecordFault.NoMemory) }
+    ensures malformed { ((entry : Record) → ¬ Codes bytes.now entry)
+        → (result ≡ Err RecordFault.NotARecord) ⊎ (result ≡ Err RecordFault.NoMemory) }
+{
+    whole_of(alloc, bytes)
 }

@@ -1,5 +1,7 @@
 //! The coding of each kind of record, byte by byte as the table of records has it, and each call
 //! once.
+mod carrying;
+
 ghost use Rattle.record_codec.specs.Sizes.{HasSizes};
 ghost use Rattle.record_codec.specs.Spelling.{spelling};
 ghost use Rattle.std.specs.Prelude.{◌<◌, ◌^◌, length};

@@ -18,7 +18,7 @@ fn rest_from(bytes: &[u8], count: usize) -> &[u8]
 }
 
 // Copies bytes into the buffer from a place on, as many as have room, and returns their number.
-fn overwrite(bytes: &[u8], from: usize, out: &mut [u8]) -> usize
+pub fn overwrite(bytes: &[u8], from: usize, out: &mut [u8]) -> usize
     requires { from ≤ length out.old }
     ensures count { result ≡ min (length out.old - from) (length bytes.now) }
     ensures copied { out.new ≡ take from out.old ++ take result bytes.now ++ drop

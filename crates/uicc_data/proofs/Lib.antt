@@ -1,5 +1,6 @@
 pub mod BinaryLemmas
 pub mod CarryLemmas
+pub mod ClosedLemmas
 pub mod DataLemmas
 pub mod NumberLemmas
 pub mod OutcomeLemmas

@@ -15,7 +15,7 @@ use Rattle.uicc_tree.proofs.GivesLemmas.{nothing_there}
 use Rattle.uicc_tree.specs.Change.{AreRows, IsRow}
 use Rattle.uicc_tree.specs.Files.{Files, IsLive, file_of, rows_of}
 use Rattle.uicc_data.specs.RecordKind.{has_records, is_cyclic}
-use Rattle.uicc_data.specs.RecordWalk.{HoldsWholeRecords, IsPointerIn, next_record, previous_record, record_count, record_in, record_meant, record_numbered}
+use Rattle.uicc_data.specs.RecordWalk.{HoldsWholeRecords, IsPointerIn, next_record, previous_record, record_count, record_in, number_named, record_numbered}
 use Rattle.uicc_data.specs.declared.walk.RecordName.{RecordName}
 use Rattle.uicc_data.specs.declared.walk.RecordName.TheVariants.{Next, Previous, Absolute, Current}
 
@@ -102,7 +102,7 @@ numbered_up_to count number = either (number == 0) (nat_lt count number) refl re
     either false true is goes = tt
     either false false is goes = (grind (arith, nat_tests), grind (arith, nat_tests))
 
-named_up_to : (goes_round : Bool) (count pointer : ℕ) (name : RecordName) → 1 ≤ count → pointer ≤ count → IfSome (record_meant goes_round count pointer name) (IsUpTo count)
+named_up_to : (goes_round : Bool) (count pointer : ℕ) (name : RecordName) → 1 ≤ count → pointer ≤ count → IfSome (number_named goes_round count pointer name) (IsUpTo count)
 named_up_to goes_round count pointer Next some within = next_up_to goes_round count pointer some
 named_up_to goes_round count pointer Previous some within = previous_up_to goes_round count pointer some within
 named_up_to goes_round count pointer (Absolute number) some within = numbered_up_to count number

@@ -6,8 +6,8 @@ use Rattle.std.specs.List.{starts_with}
 use Rattle.std.specs.Prelude.{nat_lt}
 use Rattle.file_rows.proofs.PathLemmas.{below_is, is_below}
 use Rattle.uicc_data.proofs.NumberLemmas.{power_some}
-use Rattle.uicc_data.proofs.SearchCarryLemmas.{length-number_bytes}
-use Rattle.uicc_data.specs.Number.{number_bytes, sum_of, number_of}
+use Rattle.uicc_data.proofs.SearchCarryLemmas.{length-spelled_in}
+use Rattle.uicc_data.specs.Number.{spelled_in, sum_of, number_spelled}
 use Rattle.uicc_data.specs.Search.{holds_run}
 
 -- bytes that hold others somewhere
@@ -39,32 +39,32 @@ around_holds run [] after = here_holds run (run ++ after) after refl
 around_holds run (b ∷ before) after = or_later (starts_with nat_eq (b ∷ (before ++ run ++ after)) run) (holds_run run (before ++ run ++ after)) (around_holds run before after)
 
 -- a number that fits some bytes is the one that they spell
-value_of_bytes : (k n : ℕ) → n < 256 ^ k → number_of (number_bytes k n) ≡ n
+value_of_bytes : (k n : ℕ) → n < 256 ^ k → number_spelled (spelled_in k n) ≡ n
 value_of_bytes zero n fits = omega (arith, fits)
 value_of_bytes (suc k) n fits =
-    rw (length-number_bytes k (n % 256 ^ k), value_of_bytes k (n % 256 ^ k) (mod_below n (256 ^ k) (power_some k))) (div-add-mod' n (256 ^ k))
+    rw (length-spelled_in k (n % 256 ^ k), value_of_bytes k (n % 256 ^ k) (mod_below n (256 ^ k) (power_some k))) (div-add-mod' n (256 ^ k))
 
 -- what a sum is, where there is one
-pub sum_is : (number addend sum : List ℕ) → sum_of number addend ≡ Some sum → (length sum ≡ length number) × (number_of sum ≡ number_of number + number_of addend)
-sum_is number addend sum e = either (nat_lt (number_of number + number_of addend) (256 ^ length number)) refl e
+pub sum_is : (number addend sum : List ℕ) → sum_of number addend ≡ Some sum → (length sum ≡ length number) × (number_spelled sum ≡ number_spelled number + number_spelled addend)
+sum_is number addend sum e = either (nat_lt (number_spelled number + number_spelled addend) (256 ^ length number)) refl e
   where
-    either : (fits : Bool) → nat_lt (number_of number + number_of addend) (256 ^ length number) ≡ fits
-        → cond fits (Some (number_bytes (length number) (number_of number + number_of addend))) None ≡ Some sum
-        → (length sum ≡ length number) × (number_of sum ≡ number_of number + number_of addend)
+    either : (fits : Bool) → nat_lt (number_spelled number + number_spelled addend) (256 ^ length number) ≡ fits
+        → cond fits (Some (spelled_in (length number) (number_spelled number + number_spelled addend))) None ≡ Some sum
+        → (length sum ≡ length number) × (number_spelled sum ≡ number_spelled number + number_spelled addend)
     either true is f =
-        let same : number_bytes (length number) (number_of number + number_of addend) ≡ sum = cc in
-        let below : number_of number + number_of addend < 256 ^ length number = grind (arith, nat_tests) in (
-          ap length (sym same) ∙ length-number_bytes (length number) (number_of number + number_of addend),
-          ap number_of (sym same) ∙ value_of_bytes (length number) (number_of number + number_of addend) below,
+        let same : spelled_in (length number) (number_spelled number + number_spelled addend) ≡ sum = cc in
+        let below : number_spelled number + number_spelled addend < 256 ^ length number = grind (arith, nat_tests) in (
+          ap length (sym same) ∙ length-spelled_in (length number) (number_spelled number + number_spelled addend),
+          ap number_spelled (sym same) ∙ value_of_bytes (length number) (number_spelled number + number_spelled addend) below,
         )
     either false is f = absurd (cc)
 
 -- and where there is none
-pub sum_isnt : (number addend : List ℕ) → sum_of number addend ≡ None → 256 ^ length number ≤ number_of number + number_of addend
-sum_isnt number addend e = either (nat_lt (number_of number + number_of addend) (256 ^ length number)) refl e
+pub sum_isnt : (number addend : List ℕ) → sum_of number addend ≡ None → 256 ^ length number ≤ number_spelled number + number_spelled addend
+sum_isnt number addend e = either (nat_lt (number_spelled number + number_spelled addend) (256 ^ length number)) refl e
   where
-    either : (fits : Bool) → nat_lt (number_of number + number_of addend) (256 ^ length number) ≡ fits
-        → cond fits (Some (number_bytes (length number) (number_of number + number_of addend))) None ≡ None
-        → 256 ^ length number ≤ number_of number + number_of addend
+    either : (fits : Bool) → nat_lt (number_spelled number + number_spelled addend) (256 ^ length number) ≡ fits
+        → cond fits (Some (spelled_in (length number) (number_spelled number + number_spelled addend))) None ≡ None
+        → 256 ^ length number ≤ number_spelled number + number_spelled addend
     either true is f = absurd (cc)
     either false is f = grind (arith, nat_tests)

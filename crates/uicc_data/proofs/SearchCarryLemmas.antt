@@ -31,7 +31,7 @@ use Rattle.uicc_data.specs.CarriesOut.{CanCarryOut}
 use Rattle.uicc_data.specs.FileReference.{file_named, not_there, pointer_at, using}
 use Rattle.uicc_data.specs.FileUse.{needs_of_writing}
 use Rattle.uicc_data.specs.Increase.{can_be_added, giving_sum, increase_file, increase_row, increasing}
-use Rattle.uicc_data.specs.Number.{number_bytes, sum_of, number_of}
+use Rattle.uicc_data.specs.Number.{spelled_in, sum_of, number_spelled}
 use Rattle.uicc_data.specs.RecordWalk.{HoldsWholeRecords, record_bytes, record_count, record_in}
 use Rattle.uicc_data.specs.Search.{found_from, giving_numbers, holds_run, records_left, search_place, search_record_row, search_start, searching, walk}
 use Rattle.uicc_data.specs.declared.search.Direction.{Direction}
@@ -57,17 +57,17 @@ found_there row run way number whole there =
     (each_filter (IsUpTo (record_count row.head)) (λ n. holds_run run (record_bytes row n)) (walk way number (records_left way (record_count row.head) number))
     (walk_up_to way (record_count row.head) number there.first (up_to_count row number there)))
 
-pub length-number_bytes : (k n : ℕ) → length (number_bytes k n) ≡ k
-length-number_bytes zero n = refl
-length-number_bytes (suc k) n = ap suc (length-number_bytes k (n % 256 ^ k))
+pub length-spelled_in : (k n : ℕ) → length (spelled_in k n) ≡ k
+length-spelled_in zero n = refl
+length-spelled_in (suc k) n = ap suc (length-spelled_in k (n % 256 ^ k))
 
 length-sum_of : (number addend sum : List ℕ) → sum_of number addend ≡ Some sum → length sum ≡ length number
-length-sum_of number addend sum e = either (nat_lt (number_of number + number_of addend) (256 ^ length number)) e
+length-sum_of number addend sum e = either (nat_lt (number_spelled number + number_spelled addend) (256 ^ length number)) e
   where
-    either : (fits : Bool) → cond fits (Some (number_bytes (length number) (number_of number + number_of addend))) None ≡ Some sum → length sum ≡ length number
+    either : (fits : Bool) → cond fits (Some (spelled_in (length number) (number_spelled number + number_spelled addend))) None ≡ Some sum → length sum ≡ length number
     either true f =
-        let same : number_bytes (length number) (number_of number + number_of addend) ≡ sum = cc in
-        ap length (sym same) ∙ length-number_bytes (length number) (number_of number + number_of addend)
+        let same : spelled_in (length number) (number_spelled number + number_spelled addend) ≡ sum = cc in
+        ap length (sym same) ∙ length-spelled_in (length number) (number_spelled number + number_spelled addend)
     either false f = absurd (cc)
 
 length-first : (row : FileRow) → HoldsWholeRecords row → HasRecord row.head 1 → length (record_bytes row 1) ≡ row.head.record_len

@@ -15,7 +15,7 @@ use Rattle.uicc_tree.proofs.ApplyLemmas.{rows_alike}
 use Rattle.uicc_tree.proofs.TestLemmas.{rows_kept}
 use Rattle.uicc_tree.specs.Change.{FitsFiles, rows_after}
 use Rattle.uicc_tree.specs.Files.{Files, rows_of}
-use Rattle.uicc_data.specs.CarriesOut.{CanCarryOut, IsOfCard, files_then}
+use Rattle.uicc_data.specs.CarriesOut.{CanCarryOut, IsOfCard, content_after}
 
 module _ (old new : Files) (nodes : new.nodes ≡ old.nodes) (cells : new.cells ≡ old.cells) (pins : List PinRow) (session : Session) (decided : Decided) (change : Change)
     (can : CanCarryOut (record { rows = rows_of old; pins = pins }) (outcome_of session decided)) (is : decided.change ≡ Some change) where
@@ -35,7 +35,7 @@ module _ (old new : Files) (nodes : new.nodes ≡ old.nodes) (cells : new.cells 
       let rows : rows_of last ≡ (changed card change).rows =
       made ∙ ap (λ (rows : List FileRow). rows_after rows change) (rows_kept old new nodes cells) ∙ sym (rows_alike (rows_of old) pins change) in
       let suits : Suits (session_after session decided.session) (changed card change).rows =
-      subst (λ (change : Option Change). Suits (session_after session decided.session) (files_then card change)) is can.session in (
+      subst (λ (change : Option Change). Suits (session_after session decided.session) (content_after card change).rows) is can.session in (
         (changed card change).pins,
         subst (λ (rows : List FileRow). IsValid (record { rows = rows; pins = (changed card change).pins })) (sym rows) fits.after,
         subst (λ (rows : List FileRow). Suits (session_after session decided.session) rows) (sym rows) suits,

@@ -9,16 +9,16 @@ use Rattle.uicc_channels.specs.CommandOutcome.{CommandOutcome}
 use Rattle.uicc_channels.specs.Session.{Suits}
 use Rattle.uicc_channels.specs.declared.session.Session.{Session}
 
--- the files once a change is made, where there is one
-abbrev pub files_then : Content → Option Change → List FileRow
-files_then content None = content.rows
-files_then content (Some change) = (changed content change).rows
+-- a content with a change made, where there is one
+abbrev pub content_after : Content → Option Change → Content
+content_after content None = content
+content_after content (Some change) = changed content change
 
 -- a card of this content can carry out what a command comes to: the change fits the content, and
 -- the session suits the files that are there then
 pub record CanCarryOut (content : Content) (outcome : CommandOutcome) : Type 0 where
   pub change : IfSome outcome.change (Fits content)
-  pub session : Suits outcome.session (files_then content outcome.change)
+  pub session : Suits outcome.session (content_after content outcome.change).rows
 
 -- a card may hold these files, and the session suits them
 abbrev pub IsOfCard : List FileRow → Session → Type 0

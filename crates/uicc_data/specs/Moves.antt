@@ -8,8 +8,8 @@ use Rattle.uicc_channels.specs.declared.session.Session.{Session}
 abbrev pub MovesAlone : Session → ℕ → Chan → Session → Type 0
 MovesAlone before number chan after =
     (file : Option (List ℕ)) × (pointer : ℕ)
-    × (after ≡ with_channel before number (Some
-    (record chan { file = file; pointer = pointer })))
+    × (after ≡ with_channel before number
+    (Some (record chan { file = file; pointer = pointer })))
 
 -- at most those and what waits there change
 abbrev pub MovesAndWaits : Session → ℕ → Chan → Session → Type 0

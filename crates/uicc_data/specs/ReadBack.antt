@@ -10,14 +10,14 @@ use Rattle.uicc_channels.specs.declared.session.Session.{Session}
 use Rattle.uicc_data.specs.Binary.{read_binary_row, update_binary_row}
 
 -- what an UPDATE BINARY comes to
-abbrev pub update_outcome : Content → (List ℕ → Mode → Bool) → Session → Apdu
-    → CommandOutcome
+abbrev pub update_outcome :
+    Content → (List ℕ → Mode → Bool) → Session → Apdu → CommandOutcome
 update_outcome content allowed session write =
     decided session (update_binary_row content.rows allowed session write)
 
 -- what a READ BINARY comes to on the card as the UPDATE BINARY with this change left it
-abbrev pub read_outcome : Content → (List ℕ → Mode → Bool) → Session → Apdu
-    → Change → Apdu
+abbrev pub read_outcome :
+    Content → (List ℕ → Mode → Bool) → Session → Apdu → Change → Apdu
     → CommandOutcome
 read_outcome content allowed session write change read =
     let after = (update_outcome content allowed session write).session in

@@ -39,15 +39,15 @@ record_numbered count number =
     if (number == 0) || nat_lt count number then None else Some number
 
 -- the number of the record that a command names, of so many
-abbrev pub record_meant : Bool → ℕ → ℕ → RecordName → Option ℕ
-record_meant goes_round count pointer Next = next_record goes_round count pointer
-record_meant goes_round count pointer Previous = previous_record goes_round count pointer
-record_meant goes_round count pointer (Absolute number) = record_numbered count number
-record_meant goes_round count pointer Current = record_numbered count pointer
+abbrev pub number_named : Bool → ℕ → ℕ → RecordName → Option ℕ
+number_named goes_round count pointer Next = next_record goes_round count pointer
+number_named goes_round count pointer Previous = previous_record goes_round count pointer
+number_named goes_round count pointer (Absolute number) = record_numbered count number
+number_named goes_round count pointer Current = record_numbered count pointer
 
 -- the same in a file; a cyclic one goes round
 abbrev pub record_in : FileHead → ℕ → RecordName → Option ℕ
-record_in head pointer name = record_meant (is_cyclic head.kind) (record_count head) pointer name
+record_in head pointer name = number_named (is_cyclic head.kind) (record_count head) pointer name
 
 -- where the pointer is after a command on the record of that number: next and previous move it
 -- there

@@ -16,7 +16,7 @@ ghost use Rattle.uicc_data.specs.CarriesOut.{CanCarryOut};
 ghost use Rattle.uicc_data.specs.Data.{data_row};
 ghost use Rattle.uicc_data.specs.Increase.{increase_row};
 ghost use Rattle.uicc_data.specs.Moves.{MovesAlone, MovesAndWaits};
-ghost use Rattle.uicc_data.specs.Number.{sum_of, number_of};
+ghost use Rattle.uicc_data.specs.Number.{sum_of, number_spelled};
 ghost use Rattle.uicc_data.specs.ReadBack.{ReadsBack, read_outcome};
 ghost use Rattle.uicc_data.specs.Record.{read_record_row, update_record_row};
 ghost use Rattle.uicc_data.specs.RecordWalk.{record_bytes};
@@ -111,18 +111,18 @@ pub fn written_bytes_are_read_back()
 pub fn runs_stand_in_their_bytes()
     ensures inside { (run bytes : List ℕ) → IsTrue (holds_run run bytes)
         → (before : List ℕ) × (after : List ℕ) × (bytes ≡ before ++ run ++ after) }
-    ensures found { (run before after : List ℕ) → IsTrue (holds_run run
-        (before ++ run ++ after)) }
+    ensures found { (run before after : List ℕ)
+        → IsTrue (holds_run run (before ++ run ++ after)) }
 {}
 
 /// The sum of two numbers that bytes spell is spelled in as many bytes as the first has, and there
 /// is none just where it doesn't fit them.
 pub fn sums_are_of_their_numbers()
     ensures sum { (number addend sum : List ℕ) → sum_of number addend ≡ Some sum
-        → (length sum ≡ length number) × (number_of sum
-        ≡ number_of number + number_of addend) }
+        → (length sum ≡ length number)
+        × (number_spelled sum ≡ number_spelled number + number_spelled addend) }
     ensures none { (number addend : List ℕ) → sum_of number addend ≡ None
-        → 256 ^ length number ≤ number_of number + number_of addend }
+        → 256 ^ length number ≤ number_spelled number + number_spelled addend }
 {}
 
 /// A record that is written is those bytes. A new record 1 of a cyclic file is those bytes, and

@@ -1,14 +1,14 @@
 //! Sums of unsigned numbers that bytes spell.
 ghost use Rattle.std.specs.Prelude.{◌≡◌, ◌+◌, ◌-◌, ◌*◌, ◌^◌, ◌≤◌, length, drop, IfSome};
-ghost use Rattle.uicc_data.specs.Number.{sum_of, number_of};
+ghost use Rattle.uicc_data.specs.Number.{sum_of, number_spelled};
 
 use file_rows::Piece;
 
 // The byte at a place, counted from the lowest, and 0 above the highest.
 fn digit(bytes: &[u8], place: usize) -> u8
     requires { place ≤ 255 }
-    ensures { number_of (drop (length bytes.now - (place + 1)) bytes.now)
-        ≡ result * 256 ^ place + number_of (drop (length bytes.now - place) bytes.now) }
+    ensures { number_spelled (drop (length bytes.now - (place + 1)) bytes.now)
+        ≡ result * 256 ^ place + number_spelled (drop (length bytes.now - place) bytes.now) }
 {
     if place < bytes.len() {
         bytes[bytes.len() - 1 - place]

@@ -5,7 +5,7 @@ ghost use Rattle.uicc_tree.specs.Change.{AreRows};
 ghost use Rattle.uicc_tree.specs.Files.{IsLive, file_of, rows_of};
 ghost use Rattle.uicc_data.specs.Record.{numbered, record_file, record_name, record_place};
 ghost use Rattle.uicc_data.specs.RecordKind.{has_records, is_cyclic};
-ghost use Rattle.uicc_data.specs.RecordWalk.{HoldsWholeRecords, IsPointerIn, next_record, pointer_after, previous_record, record_bytes, record_count, record_in, record_meant, record_numbered};
+ghost use Rattle.uicc_data.specs.RecordWalk.{HoldsWholeRecords, IsPointerIn, next_record, pointer_after, previous_record, record_bytes, record_count, record_in, number_named, record_numbered};
 
 use crate::reference::FileReference;
 use file_rows::Kind;
@@ -141,8 +141,8 @@ fn record_numbered(count: u8, number: u8) -> Option<u8>
     }
 }
 
-fn record_meant(goes_round: bool, count: u8, pointer: u8, name: RecordName) -> Option<u8>
-    ensures { result ≡ record_meant goes_round count pointer name }
+fn number_named(goes_round: bool, count: u8, pointer: u8, name: RecordName) -> Option<u8>
+    ensures { result ≡ number_named goes_round count pointer name }
 {
     match name {
         RecordName::Next => next_record(goes_round, count, pointer),
@@ -162,7 +162,7 @@ pub(crate) fn find_record(tree: &Tree, node: u32, pointer: u8, name: RecordName)
     ensures there { IfSome result (HasRecord (file_of tree.now node).head) }
 {
     let goes_round = is_cyclic(tree.head(node).kind);
-    record_meant(goes_round, record_count(tree, node), pointer, name)
+    number_named(goes_round, record_count(tree, node), pointer, name)
 }
 
 fn record_of(body: &[u8], record_len: u8, number: u8) -> &[u8]

@@ -4,4 +4,4 @@ use Rattle.access_rules.specs.Met.{is_set, met}
 use Rattle.access_rules.proofs.met.met_keys.Given as goal
 
 abbrev pub invariant-loop-depth : goal.invariant-loop-depth
-invariant-loop-depth l = (key : ℕ) → has l.keys key ≡ met l.pins (is_set l.verified) (take l.depth l.path) key
+invariant-loop-depth l = (key : ℕ) → has l.keys key ≡ met l.pins (is_set l.verified) (take l.depth l.directory) key

@@ -1,0 +1,4 @@
+pub mod Copy
+pub mod Image
+pub mod RecordBody
+pub mod RecordSizes

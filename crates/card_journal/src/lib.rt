@@ -1,0 +1,14 @@
+//! The card on a flash: what an image holds, as records in the gated rows of the live one of two
+//! banks.
+#![tactic(auto)]
+
+mod body;
+mod laws;
+
+pub use body::RecordBody;
+pub use laws::{
+    copies_leave_room, copies_leave_the_card, images_hold_one_card, records_are_appended,
+};
+
+#[cfg(test)]
+mod tests;

@@ -1,0 +1,7 @@
+use Rattle.record_codec.proofs.HeldLemmas.{content_valid}
+use Rattle.record_codec.proofs.durable.Durable.reserve_content.Goals as goal
+
+pub reserve_change-requires-clause-valid : goal.reserve_change-requires-clause-valid
+reserve_change-requires-clause-valid c =
+    let found = rw (c.as_slice-profiles.ensures.value, c.as_slice.ensures) at c.in-Some.ensures.found in
+    content_valid c.args.profile c.args.self.now.heads.profiles c.args.self.now.contents c.in-Some.content.now c.requires.are.contents.valid found
