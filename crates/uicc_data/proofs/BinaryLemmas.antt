@@ -35,7 +35,7 @@ bare_transparent Linear e = refl
 bare_transparent Cyclic e = refl
 
 -- bytes that may be written lie inside the body
-inside_body : (body : List ℕ) (offset : ℕ) (bytes : List ℕ) → write_refusal body offset bytes ≡ None → offset + length bytes ≤ length body
+pub inside_body : (body : List ℕ) (offset : ℕ) (bytes : List ℕ) → write_refusal body offset bytes ≡ None → offset + length bytes ≤ length body
 inside_body body offset bytes e = either (nat_le (length body) offset) (nat_lt (length body) (offset + length bytes)) refl e
   where
     either : (past long : Bool) → nat_lt (length body) (offset + length bytes) ≡ long → cond past (Some WRONG_OFFSET) (cond long (Some WRONG_LENGTH) None) ≡ None

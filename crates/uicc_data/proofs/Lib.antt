@@ -3,11 +3,15 @@ pub mod CarryLemmas
 pub mod ClosedLemmas
 pub mod DataLemmas
 pub mod NumberLemmas
+pub mod OutcomeLemmas
+pub mod ReadBackLemmas
 pub mod RecordCarryLemmas
 pub mod RecordLemmas
 pub mod ReferenceLemmas
 pub mod RowLemmas
+pub mod RunLemmas
 pub mod SearchCarryLemmas
 pub mod SearchLemmas
 pub mod SuitsLemmas
 pub mod TestLemmas
+pub mod WriteLemmas

@@ -1,4 +1,4 @@
-use Rattle.std.proofs.Common.{◌≡◌, ◌≤◌, ◌<◌, ◌+◌, ◌-◌, ◌*◌, ◌/◌, ◌%◌, ◌^◌, ℕ, suc, true, List, [], ◌∷◌, length, length-drop, add-one, drop, get_or, set, refl, ap, inl, inr, Some, arith}
+use Rattle.std.proofs.Common.{◌≡◌, ◌≤◌, ◌<◌, ◌+◌, ◌-◌, ◌*◌, ◌/◌, ◌%◌, ◌^◌, ℕ, zero, suc, true, List, [], ◌∷◌, length, length-drop, add-one, drop, get_or, set, refl, ap, inl, inr, Some, arith}
 use Rattle.std.proofs.Math.Nat.{mul-le-mul_right, pow-succ'}
 use Rattle.std.proofs.lemmas.Bool.{cases_eq, cases_lt}
 use Rattle.std.proofs.lemmas.Bool.Decides.{nat_tests}
@@ -80,3 +80,7 @@ sum_done sum number addend place carry end short long total none each =
     let fits : nat_lt (number_spelled number + number_spelled addend) (256 ^ length number) ≡ true = rw (← value, ← long) (grind (arith, nat_tests)) in
     let bytes : spelled_in (length number) (number_spelled number + number_spelled addend) ≡ sum = rw (← value, ← long) (bytes_of_value sum each) in
     rw (fits, bytes) refl
+
+pub power_some : (k : ℕ) → 0 < 256 ^ k
+power_some zero = omega arith
+power_some (suc k) = rw (pow-succ' 256 k) (omega (arith, power_some k))

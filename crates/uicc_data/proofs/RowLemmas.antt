@@ -72,7 +72,11 @@ module _ (P : CommandOutcome → Type 0) (session : Session) (where_refused : (s
       holds row refl met.channel met.lengths met.kind met.own)
 
   -- and where P1 and P2 are the command's own
+  pub named-has : {X : Type 0} (needs : Needs) (row : X → CommandRow) (place : Option X) → ((x : X) → place ≡ Some x → P (decided session (row x)))
+      → P (decided session (where_named needs session row place))
+  named-has needs row None holds = no_file-has (record needs { parameters = false })
+  named-has needs row (Some x) holds = holds x refl
+
   pub where_named-has : {X : Type 0} (needs : Needs) (row : X → CommandRow) (place : Option X) → ((x : X) → P (decided session (row x)))
       → P (decided session (where_named needs session row place))
-  where_named-has needs row None holds = no_file-has (record needs { parameters = false })
-  where_named-has needs row (Some x) holds = holds x
+  where_named-has needs row place holds = named-has needs row place (λ x at. holds x)

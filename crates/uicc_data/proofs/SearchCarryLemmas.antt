@@ -57,7 +57,7 @@ found_there row run way number whole there =
     (each_filter (IsUpTo (record_count row.head)) (λ n. holds_run run (record_bytes row n)) (walk way number (records_left way (record_count row.head) number))
     (walk_up_to way (record_count row.head) number there.first (up_to_count row number there)))
 
-length-spelled_in : (k n : ℕ) → length (spelled_in k n) ≡ k
+pub length-spelled_in : (k n : ℕ) → length (spelled_in k n) ≡ k
 length-spelled_in zero n = refl
 length-spelled_in (suc k) n = ap suc (length-spelled_in k (n % 256 ^ k))
 

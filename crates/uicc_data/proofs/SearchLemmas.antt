@@ -14,7 +14,7 @@ use Rattle.uicc_data.specs.Search.{after_steps, found_among, holds_run, walk}
 use Rattle.uicc_data.specs.declared.search.Direction.{Direction}
 use Rattle.uicc_data.specs.declared.search.Direction.TheVariants.{Forwards, Backwards}
 
-within : (session : Session) (number : ℕ) → IsOpen session number → number < length session.channels
+pub within : (session : Session) (number : ℕ) → IsOpen session number → number < length session.channels
 within session number is_open =
     elim (cases_lt number (length session.channels)) [
       | inl below ↦ below

@@ -32,7 +32,7 @@ IsAmong rows row = file_at row.head.path rows ≡ Some row
 abbrev pub AreApart : List FileRow → Type 0
 AreApart rows = EachTwo (λ one other. one.path ≢ other.path) (heads_of rows)
 
-found_step : (b : Bool) (r : FileRow) (later : Option FileRow) (row : FileRow) → cond b (Some r) later ≡ Some row → ((b ≡ true) × (r ≡ row)) ⊎ (later ≡ Some row)
+pub found_step : (b : Bool) (r : FileRow) (later : Option FileRow) (row : FileRow) → cond b (Some r) later ≡ Some row → ((b ≡ true) × (r ≡ row)) ⊎ (later ≡ Some row)
 found_step true r later row e = inl (refl, cc)
 found_step false r later row e = inr e
 
@@ -108,7 +108,7 @@ module _ (path : List ℕ) (write : List ℕ → List ℕ) where
   abbrev pub written_rows : List FileRow → List FileRow
   written_rows rows = with_file path (with_body write) rows
 
-  same_head : (b : Bool) (row : FileRow) → (cond b (with_body write row) row).head ≡ row.head
+  pub same_head : (b : Bool) (row : FileRow) → (cond b (with_body write row) row).head ≡ row.head
   same_head true row = refl
   same_head false row = refl
 

@@ -75,7 +75,8 @@ writing session c place row =
     }
 
 -- READ BINARY
-abbrev pub read_binary_row : List FileRow → (List ℕ → Mode → Bool) → Session → Apdu → CommandRow
+abbrev pub read_binary_row :
+    List FileRow → (List ℕ → Mode → Bool) → Session → Apdu → CommandRow
 read_binary_row rows allowed session c =
     let needs = needs_of_reading session c in
     where_named needs session
@@ -83,7 +84,8 @@ read_binary_row rows allowed session c =
     (binary_place c.p1 c.p2)
 
 -- UPDATE BINARY
-abbrev pub update_binary_row : List FileRow → (List ℕ → Mode → Bool) → Session → Apdu → CommandRow
+abbrev pub update_binary_row :
+    List FileRow → (List ℕ → Mode → Bool) → Session → Apdu → CommandRow
 update_binary_row rows allowed session c =
     let needs = needs_of_writing session c in
     where_named needs session

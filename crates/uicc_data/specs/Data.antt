@@ -16,7 +16,8 @@ abbrev pub IsOnData : ℕ → Type 0
 IsOnData ins = IsTrue (is_one_of (0xB0 ∷ 0xD6 ∷ 0xB2 ∷ 0xDC ∷ 0xA2 ∷ 0x32 ∷ []) ins)
 
 -- the row of a command's instruction
-abbrev pub data_row : List FileRow → (List ℕ → Mode → Bool) → Session → Apdu → CommandRow
+abbrev pub data_row :
+    List FileRow → (List ℕ → Mode → Bool) → Session → Apdu → CommandRow
 data_row rows allowed session c =
     if c.ins == 0xB0 then read_binary_row rows allowed session c
     else if c.ins == 0xD6 then update_binary_row rows allowed session c

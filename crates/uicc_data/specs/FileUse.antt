@@ -46,7 +46,8 @@ abbrev pub with_no_file : Needs → Session → CommandRow
 with_no_file needs session = record { needs = needs; done = answering session (status_alone OK) }
 
 -- what a command needs of the file that it works on, beside its other needs, and what it comes to
-abbrev pub on_file : Needs → Session → (List ℕ → Mode → Bool) → Sw → (FileRow → FileUse)
+abbrev pub on_file :
+    Needs → Session → (List ℕ → Mode → Bool) → Sw → (FileRow → FileUse)
     → Option FileRow → CommandRow
 on_file needs session allowed not_there usage None =
     with_no_file (record needs { file = Some not_there }) session
@@ -62,13 +63,15 @@ on_file needs session allowed not_there usage (Some row) =
     }
 
 -- a command on the file that it names
-abbrev pub on_named : List FileRow → (List ℕ → Mode → Bool) → Session → Apdu → Needs
-    → FileReference → (FileRow → FileUse) → CommandRow
+abbrev pub on_named :
+    List FileRow → (List ℕ → Mode → Bool) → Session → Apdu → Needs → FileReference
+    → (FileRow → FileUse) → CommandRow
 on_named rows allowed session c needs file usage =
     on_file needs session allowed (not_there file) usage
     (file_named rows (open_channel session c.channel) file)
 
 -- a command by what its P1 and P2 name, where they are its own
-abbrev pub where_named : {X : Type 0} → Needs → Session → (X → CommandRow) → Option X → CommandRow
+abbrev pub where_named :
+    {X : Type 0} → Needs → Session → (X → CommandRow) → Option X → CommandRow
 where_named needs session row None = with_no_file (record needs { parameters = false }) session
 where_named needs session row (Some place) = row place

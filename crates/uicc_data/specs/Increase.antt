@@ -62,7 +62,8 @@ increasing session c row =
     }
 
 -- INCREASE
-abbrev pub increase_row : List FileRow → (List ℕ → Mode → Bool) → Session → Apdu → CommandRow
+abbrev pub increase_row :
+    List FileRow → (List ℕ → Mode → Bool) → Session → Apdu → CommandRow
 increase_row rows allowed session c =
     let needs = needs_of_writing session c in
     where_named needs session

@@ -5,7 +5,9 @@ pub mod Data
 pub mod FileReference
 pub mod FileUse
 pub mod Increase
+pub mod Moves
 pub mod Number
+pub mod ReadBack
 pub mod Record
 pub mod RecordKind
 pub mod RecordWalk

@@ -145,7 +145,8 @@ writing_record session c place row =
     }
 
 -- READ RECORD
-abbrev pub read_record_row : List FileRow → (List ℕ → Mode → Bool) → Session → Apdu → CommandRow
+abbrev pub read_record_row :
+    List FileRow → (List ℕ → Mode → Bool) → Session → Apdu → CommandRow
 read_record_row rows allowed session c =
     let needs = needs_of_reading session c in
     where_named needs session
@@ -153,7 +154,8 @@ read_record_row rows allowed session c =
     (record_place c.p1 c.p2)
 
 -- UPDATE RECORD
-abbrev pub update_record_row : List FileRow → (List ℕ → Mode → Bool) → Session → Apdu → CommandRow
+abbrev pub update_record_row :
+    List FileRow → (List ℕ → Mode → Bool) → Session → Apdu → CommandRow
 update_record_row rows allowed session c =
     let needs = needs_of_writing session c in
     where_named needs session

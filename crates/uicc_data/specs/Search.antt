@@ -102,7 +102,8 @@ searching session c place row =
     }
 
 -- SEARCH RECORD
-abbrev pub search_record_row : List FileRow → (List ℕ → Mode → Bool) → Session → Apdu → CommandRow
+abbrev pub search_record_row :
+    List FileRow → (List ℕ → Mode → Bool) → Session → Apdu → CommandRow
 search_record_row rows allowed session c =
     let needs = needs_of_writing session c in
     where_named needs session

@@ -31,7 +31,8 @@ pub(crate) fn binary_place(p1: u8, p2: u8) -> Option<BinaryPlace>
 // What a body has from an offset on, which lies in it.
 pub(crate) fn rest_from(body: &[u8], offset: u16) -> Result<&[u8], Sw>
     ensures { MatchResult result
-        (λ rest. (nat_le (length body.now) offset ≡ false) × (rest.now ≡ drop offset body.now))
+        (λ rest. (nat_le (length body.now) offset ≡ false)
+        × (rest.now ≡ drop offset body.now))
         (λ sw. (nat_le (length body.now) offset ≡ true) × (sw ≡ Sw.WRONG_OFFSET)) }
 {
     let offset = usize::from(offset);

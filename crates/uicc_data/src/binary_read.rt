@@ -32,7 +32,15 @@ fn read_from(body: &[u8], offset: u16, le: u16) -> Result<&[u8], Sw>
     Ok(&left[..wanted.min(left.len())])
 }
 
-/// READ BINARY (ETSI TS 102 221).
+/// READ BINARY (ETSI TS 102 221): bytes of a transparent file, by an offset in the current EF, or
+/// by SFI and an offset.
+///
+/// A body, or no Le, is `6700`; no current EF `6986`; no file with the SFI in the current directory
+/// `6A82`; a file of another kind `6981`, deactivated `6984`, terminated `6985`, not readable
+/// `6982`; an offset at the size or past it `6B00`; an Le above the number of bytes left `6CXX`. Le
+/// 00, read as 256, takes all that are left, up to as many. By SFI the file becomes the current EF
+/// with no record pointer; what waits on the channel stays. No file changes. The guard is asked by
+/// the file's node and answers what `allowed` says of its path. It takes no memory.
 pub fn read_binary<G: Guard>(
     tree: &Tree,
     guard: &G,

@@ -27,7 +27,13 @@ fn require_inside(body: &[u8], offset: u16, bytes: &[u8]) -> Result<(), Sw>
     require(bytes.len() <= left.len(), Sw::WRONG_LENGTH)
 }
 
-/// UPDATE BINARY (ETSI TS 102 221).
+/// UPDATE BINARY (ETSI TS 102 221): writes the body into a transparent file, at an offset in the
+/// current EF, or by SFI and an offset.
+///
+/// No body is `6700`; the file is found and refused as by READ BINARY, with the access to update;
+/// an offset at the size or past it is `6B00`, and more bytes than are left from there `6700`. By
+/// SFI the file becomes the current EF with no record pointer; what waits on the channel stays. It
+/// takes no memory.
 pub fn update_binary<G: Guard>(
     tree: &Tree,
     guard: &G,

@@ -20,7 +20,7 @@ use uicc_channels::{Decided, Guard, Session};
 use uicc_tree::Tree;
 
 /// A command on data (ETSI TS 102 221): READ BINARY, UPDATE BINARY, READ RECORD, UPDATE RECORD,
-/// SEARCH RECORD or INCREASE, by its instruction.
+/// SEARCH RECORD or INCREASE, by its instruction. Each is a call of its own, too.
 pub fn data_command<G: Guard>(
     tree: &Tree,
     guard: &G,

@@ -94,7 +94,13 @@ fn increase_named(
     Ok(())
 }
 
-/// INCREASE (ETSI TS 102 221).
+/// INCREASE (ETSI TS 102 221): adds the body to record 1 of a cyclic file, as unsigned numbers with
+/// the highest byte first, and makes the sum its new record 1; the last record goes.
+///
+/// No body is `6700`; the file is found and refused as by READ BINARY, with the access of the
+/// instruction; a body longer than a record, or one with which a record has more than 256 bytes, is
+/// `6700`; a sum that doesn't fit a record `9850`. The sum and the body are delivered by their
+/// length and Le, and the record pointer is then at record 1. It takes no memory.
 pub fn increase<G: Guard>(
     tree: &Tree,
     guard: &G,

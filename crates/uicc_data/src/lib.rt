@@ -1,4 +1,5 @@
-//! The commands on the data of a card's files (ETSI TS 102 221): READ BINARY and UPDATE BINARY.
+//! The commands on the data of a card's files (ETSI TS 102 221): READ BINARY, UPDATE BINARY, READ
+//! RECORD, UPDATE RECORD, SEARCH RECORD and INCREASE.
 //!
 //! Nothing here takes memory.
 #![tactic(auto)]
@@ -22,7 +23,11 @@ pub use binary_read::read_binary;
 pub use binary_update::update_binary;
 pub use dispatch::data_command;
 pub use increase_command::increase;
-pub use laws::cards_carry_out_data_commands;
+pub use laws::{
+    cards_carry_out_data_commands, data_commands_move_their_channel_alone, reads_change_no_file,
+    runs_stand_in_their_bytes, sums_are_of_their_numbers, written_bytes_are_read_back,
+    written_records_stand_in_their_places,
+};
 pub use record_read::read_record;
 pub use record_update::{WritePlace, update_record};
 pub use reference::FileReference;

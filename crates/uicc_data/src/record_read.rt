@@ -80,7 +80,14 @@ fn read_named(
     Ok(())
 }
 
-/// READ RECORD (ETSI TS 102 221).
+/// READ RECORD (ETSI TS 102 221): a record of a linear or cyclic file, the next or previous one,
+/// the one of a number, or the current one.
+///
+/// A body, or no Le, is `6700`; the file is found and refused as by READ BINARY; a record that
+/// isn't there `6A83`; an Le that is neither 00 nor the length of a record `6CXX`. Next and
+/// previous move the record pointer to the record, and go round in a cyclic file. By SFI the
+/// command begins without a pointer, and the file becomes the current EF; what waits on the channel
+/// stays. No file changes. It takes no memory.
 pub fn read_record<G: Guard>(
     tree: &Tree,
     guard: &G,

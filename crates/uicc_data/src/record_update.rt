@@ -59,7 +59,13 @@ fn find_write_place(tree: &Tree, node: u32, pointer: u8, name: RecordName) -> Op
     })
 }
 
-/// UPDATE RECORD (ETSI TS 102 221).
+/// UPDATE RECORD (ETSI TS 102 221): writes the body as a record of a linear file, or as a new
+/// record 1 of a cyclic one, whose last record goes.
+///
+/// No body is `6700`; the file is found and refused as by READ BINARY, with the access to update; a
+/// cyclic file takes previous alone (`6981`); a record that isn't there is `6A83`, and then a body
+/// that hasn't the length of a record `6700`. The record pointer goes as in READ RECORD, in a
+/// cyclic file to record 1. It takes no memory.
 pub fn update_record<G: Guard>(
     tree: &Tree,
     guard: &G,

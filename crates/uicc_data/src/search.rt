@@ -217,7 +217,13 @@ fn search_named(
     Ok(())
 }
 
-/// SEARCH RECORD (ETSI TS 102 221).
+/// SEARCH RECORD (ETSI TS 102 221), the simple search: the numbers of the records that hold the
+/// body as a run of bytes, from one record on to the end of the file, forwards or backwards.
+///
+/// No body is `6700`; the file is found and refused as by READ RECORD; a number above the count is
+/// `6A83`, and no record found `6282`, with which nothing changes. The numbers are delivered by
+/// their count and Le, in the order of the search, and the record pointer is then at the first. It
+/// looks at each record once, and takes no memory.
 pub fn search_record<G: Guard>(
     tree: &Tree,
     guard: &G,

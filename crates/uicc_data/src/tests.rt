@@ -209,8 +209,8 @@ fn search_lists_the_records_in_the_order_of_its_walk(rt: HostRuntime) -> Result<
     Ok(())
 }
 
-// The refusals of each command in their order, from a command that is wrong in all respects on: each
-// next one mends the first.
+// The refusals of each command in their order, from a command that is wrong in all respects on:
+// each next one mends the first.
 fn refusals() -> [Case; 47] {
     [
         (b"\x80\xB0\xA0\x00", b"", 0x6E00),
