@@ -3,9 +3,12 @@
 #![tactic(auto)]
 
 mod body;
+mod fault;
 mod laws;
+mod next;
 
 pub use body::RecordBody;
+pub use fault::ReadFault;
 pub use laws::{
     copies_leave_room, copies_leave_the_card, images_hold_one_card, records_are_appended,
 };
