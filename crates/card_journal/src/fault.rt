@@ -2,7 +2,6 @@ ghost use Rattle.std.specs.Prelude.{◌≡◌};
 ghost use Rattle.card_journal.specs.declared.fault.ReadFault.TheVariants.{Flash, NotACard, NoMemory};
 
 use port_io::Failed;
-use record_codec::RecordFault;
 use std::alloc::AllocError;
 use thiserror::Error;
 

@@ -6,9 +6,12 @@ mod body;
 mod fault;
 mod laws;
 mod next;
+mod reading;
+mod row;
 
 pub use body::RecordBody;
 pub use fault::ReadFault;
+pub use reading::{Found, read_bank};
 pub use laws::{
     copies_leave_room, copies_leave_the_card, images_hold_one_card, records_are_appended,
 };
