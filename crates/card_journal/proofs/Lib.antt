@@ -1,3 +1,4 @@
+pub mod BankLemmas
 pub mod BoundLemmas
 pub mod CopyLemmas
 pub mod ImageLemmas
