@@ -34,7 +34,7 @@ abbrev pub IsRowAt : Bank → List ℕ → ℕ → Option Row → Type 0
 IsRowAt bank image at None = RowIs at (part at (end_of bank - at) image) End
 IsRowAt bank image at (Some row) =
     (place : ℕ) × RowIs at (part at (end_of bank - at) image)
-        (Open place (length row.bytes.items) row.next)
+    (Open place (length row.bytes.items) row.next)
     × (row.bytes.items ≡ part place (length row.bytes.items) image)
 
 -- nothing but reads: each image since then is what reads returned, and return

@@ -11,10 +11,10 @@ mod row;
 
 pub use body::RecordBody;
 pub use fault::ReadFault;
-pub use reading::{Found, read_bank};
 pub use laws::{
     copies_leave_room, copies_leave_the_card, images_hold_one_card, records_are_appended,
 };
+pub use reading::{Found, read_bank};
 
 #[cfg(test)]
 mod tests;
