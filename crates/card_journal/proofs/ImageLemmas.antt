@@ -13,7 +13,7 @@ use Rattle.record_codec.specs.declared.record.Record.{Record}
 use Rattle.record_codec.proofs.AgainLemmas.{one_record}
 
 -- bodies are the codings of one list of records
-one_list : (bodies : List (List ℕ)) (one other : List Record) → AreCodings bodies one → AreCodings bodies other → one ≡ other
+pub one_list : (bodies : List (List ℕ)) (one other : List Record) → AreCodings bodies one → AreCodings bodies other → one ≡ other
 one_list [] [] [] first second = refl
 one_list [] (entry ∷ entries) other first second = absurd first
 one_list [] [] (entry ∷ entries) first second = absurd second
@@ -49,19 +49,19 @@ valid_left (first ∷ entries) held left = subst IsDurable (sym left.3) (folded 
 pub valid : (image : List ℕ) (held : Durable) → HoldsCard image held → IsDurable held
 valid image held holds = valid_left holds.entries held holds.left
 
-codings_more : (bodies : List (List ℕ)) (entries : List Record) (body : List ℕ) (entry : Record) → AreCodings bodies entries → Codes body entry
+pub codings_more : (bodies : List (List ℕ)) (entries : List Record) (body : List ℕ) (entry : Record) → AreCodings bodies entries → Codes body entry
     → AreCodings (bodies ++ body ∷ []) (entries ++ entry ∷ [])
 codings_more [] [] body entry are codes = (codes, tt)
 codings_more [] (its ∷ entries) body entry are codes = absurd are
 codings_more (one ∷ bodies) [] body entry are codes = absurd are
 codings_more (one ∷ bodies) (its ∷ entries) body entry are codes = (are.0, codings_more bodies entries body entry are.1 codes)
 
-follow_more : (held : Durable) (entries : List Record) (entry : Record) → Follow held entries → (MakesCard entry → ⊥) → FitsCard (fold held entries) entry
+pub follow_more : (held : Durable) (entries : List Record) (entry : Record) → Follow held entries → (MakesCard entry → ⊥) → FitsCard (fold held entries) entry
     → Follow held (entries ++ entry ∷ [])
 follow_more held [] entry follow old fits = (old, fits, tt)
 follow_more held (its ∷ entries) entry follow old fits = (follow.0, follow.1, follow_more (apply held its) entries entry follow.2 old fits)
 
-fold_more : (held : Durable) (entries : List Record) (entry : Record) → fold held (entries ++ entry ∷ []) ≡ apply (fold held entries) entry
+pub fold_more : (held : Durable) (entries : List Record) (entry : Record) → fold held (entries ++ entry ∷ []) ≡ apply (fold held entries) entry
 fold_more held [] entry = refl
 fold_more held (its ∷ entries) entry = fold_more (apply held its) entries entry
 

@@ -2,7 +2,6 @@
 use Rattle.std.proofs.Common.{◌≡◌, ◌↔◌, ℕ, ◌+◌, ◌<◌, ◌≤◌, List, [], ◌∷◌, length, drop, get_or, sym, subst, arith}
 use Rattle.std.specs.List.{AllByRecursion}
 use Rattle.file_rows.proofs.EachLemmas.{drop_item}
-use Rattle.notify_list.specs.Notes.{AreNumbered, NoteList}
 use Rattle.notify_list.specs.declared.note.Note.{Note}
 use Rattle.plain_lists.specs.EachTwo.{EachTwo}
 use Rattle.record_codec.specs.Behind.{IsBehind}

@@ -1,5 +1,5 @@
 -- Just when a card takes a record, by the kind of the record.
-use Rattle.std.proofs.Common.{◌≡◌, ◌≢◌, ◌↔◌, ℕ, zero, suc, ◌+◌, ◌<◌, ◌≤◌, Bool, true, false, cond, not, List, [], ◌∷◌, ◌++◌, length, map, filter, replicate, Option, Some, None, refl, sym, ◌∙◌, ap, subst, arith}
+use Rattle.std.proofs.Common.{◌≡◌, ◌≢◌, ◌↔◌, ℕ, ◌+◌, ◌<◌, Bool, true, false, cond, not, List, [], ◌∷◌, ◌++◌, filter, Option, Some, None, refl, sym, ap, subst, arith}
 use Rattle.std.proofs.lemmas.List.{length-map, length-replicate, length_push}
 use Rattle.std.specs.List.{AllByRecursion}
 use Rattle.std.specs.Prelude.{IfSome, IsSomeAnd, option_and_then, slice_get}
@@ -12,20 +12,17 @@ use Rattle.file_rows.proofs.ListLemmas.{any_left, any_right, any_first, each_app
 use Rattle.notify_list.specs.Notes.{NoteList}
 use Rattle.notify_list.specs.declared.note.Note.{Note}
 use Rattle.notify_list.specs.declared.note.Operation.TheVariants.{Install, Enable, Disable, Delete}
-use Rattle.plain_lists.specs.EachTwo.{EachTwo}
-use Rattle.port_table.specs.Ports.{StandsOn, bound, unbound}
 use Rattle.port_table.specs.declared.port_mode.PortMode.{PortMode}
-use Rattle.record_codec.specs.Apply.{apply}
 use Rattle.record_codec.specs.Begin.{IsBegun}
 use Rattle.record_codec.specs.FitsCard.{FitsCard}
 use Rattle.record_codec.specs.Gone.{unbound_each, is_among}
 use Rattle.record_codec.specs.Heads.{IsHeld, content_at, head_of}
-use Rattle.record_codec.specs.IsDurable.{AreHeads, AreNotes, ArePorts, AreProfiles, IsDurable, IsHead}
+use Rattle.record_codec.specs.IsDurable.{AreNotes, ArePorts, IsDurable, IsHead}
 use Rattle.record_codec.specs.Name.{named}
-use Rattle.record_codec.specs.Noted.{count_of, count_of_each, count_where, noted, noted_each, noted_where}
+use Rattle.record_codec.specs.Noted.{count_of, count_where, noted, noted_where}
 use Rattle.record_codec.specs.PutCard.{new_card}
 use Rattle.record_codec.specs.PutProfile.{bound_where}
-use Rattle.record_codec.specs.Takes.{AreGoing, IsBinding, IsCard, IsFreePort, IsNewProfile, IsUnbinding, TakesContent, TakesHeads, TakesRecord}
+use Rattle.record_codec.specs.Takes.{IsCard, IsFreePort, IsNewProfile, TakesRecord}
 use Rattle.record_codec.specs.declared.durable.Durable.{Durable}
 use Rattle.record_codec.specs.declared.durable.Heads.{Heads}
 use Rattle.record_codec.specs.declared.profile.Profile.{Profile}

@@ -6,7 +6,6 @@ use Rattle.std.proofs.lemmas.List.{length-set}
 use Rattle.std.proofs.lemmas.Option.{slice_get_within}
 use Rattle.file_rows.proofs.EachLemmas.{drop_item}
 use Rattle.port_table.specs.Ports.{HasProfiles, KeepsPortRule, MayBind, StandsNowhere, StandsOn, bound, unbound}
-use Rattle.port_table.specs.declared.port_mode.PortMode.{PortMode}
 use Rattle.port_table.specs.declared.ports.Ports.{Ports}
 use Rattle.port_table.proofs.PortLemmas.{nowhere, others, unbound_keeps}
 use Rattle.record_codec.specs.Gone.{is_among, unbound_each}

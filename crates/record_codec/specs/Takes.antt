@@ -1,16 +1,15 @@
 -- What each kind of record needs of what a card holds, so that the card takes it.
-use Rattle.std.specs.Prelude.{ℕ, Bool, true, false, ◌≡◌, ◌≢◌, ◌≤◌, ◌<◌, ◌+◌, List, length, filter, Option, Some, None, option_and_then, IfSome, IsSomeAnd, slice_get, ⊤}
+use Rattle.std.specs.Prelude.{ℕ, Bool, true, false, ◌≡◌, ◌≢◌, ◌≤◌, ◌<◌, ◌+◌, List, length, Option, Some, None, option_and_then, IfSome, slice_get, ⊤}
 use Rattle.std.specs.List.{AllByRecursion}
-use Rattle.file_rows.specs.Change.{Fits}
 use Rattle.file_rows.specs.Content.{IsValid}
-use Rattle.notify_list.specs.Notes.{HasNoteRoom, NoteList}
+use Rattle.notify_list.specs.Notes.{HasNoteRoom}
 use Rattle.notify_list.specs.declared.note.Note.{Note}
 use Rattle.notify_list.specs.declared.note.Operation.TheVariants.{Install, Enable, Disable, Delete}
 use Rattle.plain_lists.specs.EachTwo.{EachTwo}
 use Rattle.port_table.specs.Ports.{HasProfiles, StandsNowhere, StandsOn}
 use Rattle.port_table.specs.declared.port_mode.PortMode.{PortMode}
 use Rattle.record_codec.specs.Content.{MayChange}
-use Rattle.record_codec.specs.Heads.{IsHeld, head_of, held_content}
+use Rattle.record_codec.specs.Heads.{IsHeld, head_of}
 use Rattle.record_codec.specs.IsDurable.{AreNotes, IsHead, fewest_ports}
 use Rattle.record_codec.specs.Noted.{count_of, count_of_each, count_where}
 use Rattle.record_codec.specs.declared.durable.Durable.{Durable}

@@ -1,4 +1,4 @@
-use Rattle.std.proofs.Common.{◌≡◌, ◌+◌, ◌++◌, ◌∙◌, ℕ, List, Bool, true, cond, take, drop, ap}
+use Rattle.std.proofs.Common.{◌≡◌, ◌+◌, ◌++◌, ◌∙◌, ℕ, List, Bool, cond, take, drop, ap}
 use Rattle.record_codec.specs.Gone.{is_among}
 use Rattle.record_codec.proofs.DropLemmas.{pass_one}
 use Rattle.record_codec.proofs.apply.drop_contents.Goals as goal

@@ -1,4 +1,4 @@
-use Rattle.std.proofs.Common.{◌≡◌, ◌∙◌, true, cond, nat_eq, set, sym, ap, subst}
+use Rattle.std.proofs.Common.{◌≡◌, ◌∙◌, cond, nat_eq, set, sym, ap, subst}
 use Rattle.std.proofs.lemmas.List.Edits.{map_over_more}
 use Rattle.file_rows.specs.declared.pin.PinRow.{PinRow}
 use Rattle.record_codec.proofs.content_change.set_each.Goals as goal

@@ -1,4 +1,4 @@
-use Rattle.std.proofs.Common.{◌≡◌, cond, nat_eq, set}
+use Rattle.std.proofs.Common.{◌≡◌, cond, nat_eq}
 use Rattle.plain_lists.proofs.MappedLemmas.{mapped_to}
 use Rattle.record_codec.proofs.content_change.set_each.Given as goal
 

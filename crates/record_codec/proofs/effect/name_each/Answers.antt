@@ -1,4 +1,4 @@
-use Rattle.std.proofs.Common.{◌∙◌, List, true, get_or, set, ap, arith}
+use Rattle.std.proofs.Common.{◌∙◌, List, get_or, set, ap, arith}
 use Rattle.std.proofs.lemmas.List.Edits.{map_over_more}
 use Rattle.record_codec.specs.Name.{named}
 use Rattle.record_codec.specs.declared.profile.ProfileHead.{ProfileHead}

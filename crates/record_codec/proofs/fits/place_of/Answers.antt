@@ -1,4 +1,4 @@
-use Rattle.std.proofs.Common.{◌≡◌, true, false}
+use Rattle.std.proofs.Common.{◌≡◌}
 use Rattle.file_rows.proofs.ListLemmas.{any_rest}
 use Rattle.record_codec.proofs.fits.place_of.Goals as goal
 

@@ -1,4 +1,4 @@
-use Rattle.std.proofs.Common.{◌≡◌, ◌+◌, ◌∷◌, ◌∙◌, ℕ, List, true, drop, get_or, sym, ap, subst}
+use Rattle.std.proofs.Common.{◌≡◌, ◌+◌, ◌∷◌, ◌∙◌, ℕ, List, drop, get_or, sym, ap, subst}
 use Rattle.record_codec.specs.Heads.{head_of}
 use Rattle.record_codec.specs.Noted.{count_of_each, count_where, noted_each, noted_where}
 use Rattle.std.proofs.lemmas.List.{drop_more}

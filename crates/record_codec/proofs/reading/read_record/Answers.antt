@@ -1,4 +1,3 @@
-use Rattle.file_rows.proofs.EachLemmas.{refused}
 use Rattle.record_codec.proofs.ReadLemmas.{is_malformed, is_read}
 use Rattle.record_codec.proofs.reading.read_record.Goals as goal
 

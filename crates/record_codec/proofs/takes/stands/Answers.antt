@@ -1,4 +1,4 @@
-use Rattle.std.proofs.Common.{◌∙◌, ℕ, true, false, get_or, Option, None, sym}
+use Rattle.std.proofs.Common.{◌∙◌, ℕ, get_or, Option, None, sym}
 use Rattle.std.proofs.lemmas.Bool.{false≢true}
 use Rattle.std.proofs.lemmas.List.{get_or_default}
 use Rattle.record_codec.proofs.PortLemmas.{stands_more}

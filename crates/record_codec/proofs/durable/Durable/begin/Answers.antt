@@ -1,4 +1,4 @@
-use Rattle.std.proofs.Common.{false, sym, subst}
+use Rattle.std.proofs.Common.{sym, subst}
 use Rattle.record_codec.specs.Begin.{IsBegun}
 use Rattle.record_codec.specs.declared.record.Record.{Record}
 use Rattle.record_codec.proofs.FitLemmas.{begun}

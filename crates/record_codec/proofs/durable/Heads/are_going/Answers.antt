@@ -1,4 +1,4 @@
-use Rattle.std.proofs.Common.{◌∙◌, true, false, sym}
+use Rattle.std.proofs.Common.{◌∙◌, sym}
 use Rattle.std.proofs.lemmas.Bool.{false≢true}
 use Rattle.file_rows.proofs.EachLemmas.{fails}
 use Rattle.record_codec.proofs.durable.Heads.are_going.Goals as goal
