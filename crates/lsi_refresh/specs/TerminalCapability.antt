@@ -1,0 +1,8 @@
+use Rattle.apdu_codec.specs.Command.{Apdu}
+use Rattle.lsi_refresh.specs.TerminalCommand.{taken_row}
+use Rattle.uicc_channels.specs.CommandRow.{CommandRow}
+use Rattle.uicc_channels.specs.declared.session.Session.{Session}
+
+-- ETSI TS 102 221, TERMINAL CAPABILITY: what the terminal can do isn't looked at
+abbrev pub terminal_capability_row : Session → Apdu → CommandRow
+terminal_capability_row session c = taken_row session c
