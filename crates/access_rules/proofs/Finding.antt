@@ -9,7 +9,8 @@ use Rattle.plain_lists.specs.FirstOf.{first_of}
 use Rattle.file_rows.proofs.ListLemmas.{contains_first, contains_later}
 use Rattle.file_rows.specs.declared.pin.PinRow.{PinRow}
 use Rattle.access_rules.specs.May.{enclosing}
-use Rattle.access_rules.specs.Met.{is_set, pin_at, pin_for}
+use Rattle.access_rules.specs.Met.{pin_at, pin_for}
+use Rattle.file_rows.specs.PinRow.{is_verified}
 use Rattle.access_rules.proofs.Objects.{by_test, ltb-not}
 
 high_bit : (v b : ℕ) → v < 2 ^ 32 → 32 ≤ b → bit_at v b ≡ 0
@@ -18,7 +19,7 @@ high_bit v b h k =
     let q : v < 2 ^ b = omega arith in
     ap (λ n. n % 2) (div-eq_of_lt q)
 
-pub unset : (v number bit : ℕ) → v < 2 ^ 32 → bit ≡ number - 1 → 32 ≤ bit → nat_lt bit 32 ≡ is_set v number
+pub unset : (v number bit : ℕ) → v < 2 ^ 32 → bit ≡ number - 1 → 32 ≤ bit → nat_lt bit 32 ≡ is_verified v number
 unset v number bit h e k =
     let z : bit_at v (number - 1) ≡ 0 = high_bit v (number - 1) h (omega arith) in
     ltb-not bit 32 k ∙ sym (ap (λ n. n == 1) z)

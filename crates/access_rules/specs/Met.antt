@@ -1,6 +1,5 @@
 -- Which keys are met (ETSI TS 102 221, PIN and key references).
 use Rattle.std.specs.Prelude.{ℕ, Bool, false, not, ◌-◌, ◌==◌, ◌&&◌, ◌||◌, if◌then◌else◌, List, map, find, Option, option_map, unwrap_or}
-use Rattle.std.specs.Int.{bit_at}
 use Rattle.plain_lists.specs.FirstOf.{first_of}
 use Rattle.file_rows.specs.Content.{file_at}
 use Rattle.file_rows.specs.FileHead.{holds_files}
@@ -27,10 +26,6 @@ counts verified pin = verified pin.number || not pin.enabled
 abbrev pub met : List PinRow → (ℕ → Bool) → List ℕ → ℕ → Bool
 met pins verified directory key =
     unwrap_or (option_map (counts verified) (pin_for pins directory key)) false
-
--- the PINs that a session knows to be verified: bit number - 1 stands for the PIN of that number
-abbrev pub is_set : ℕ → ℕ → Bool
-is_set verified number = bit_at verified (number - 1) == 1
 
 -- the directory from which the keys of a file's rule are looked for: a directory's own, and that
 -- which holds an EF

@@ -1,28 +1,29 @@
 //! Which keys the PINs of a card meet.
 ghost use Rattle.std.specs.Prelude.{◌≡◌, ℕ, option_copied, option_map, unwrap_or};
 ghost use Rattle.access_rules.specs.KeySet.{has};
-ghost use Rattle.access_rules.specs.Met.{counts, is_set, met, pin_at, pin_for};
+ghost use Rattle.access_rules.specs.Met.{counts, met, pin_at, pin_for};
+ghost use Rattle.file_rows.specs.PinRow.{is_verified};
 
 use crate::KeySet;
 use file_rows::PinRow;
 
-fn is_set(verified: u32, number: u8) -> bool
-    ensures { result ≡ is_set verified number }
+fn is_verified(verified: u32, number: u8) -> bool
+    ensures { result ≡ is_verified verified number }
 {
     let bit = number.saturating_sub(1);
     bit < 32 && (verified >> bit) & 1 == 1
 }
 
 fn counts(pin: &PinRow, verified: u32) -> bool
-    ensures { result ≡ counts (is_set verified) pin.now }
+    ensures { result ≡ counts (is_verified verified) pin.now }
 {
-    is_set(verified, pin.number) || !pin.enabled
+    is_verified(verified, pin.number) || !pin.enabled
 }
 
 // Puts the keys of the PINs at home in one directory in place of those found above it.
 fn put_keys_at(keys: &mut KeySet, pins: &[PinRow], home: &[u16], verified: u32)
     ensures { (key : ℕ) → has keys.new key ≡ unwrap_or
-        (option_map (counts (is_set verified)) (pin_at pins.now key home.now)) (has keys.old key) }
+        (option_map (counts (is_verified verified)) (pin_at pins.now key home.now)) (has keys.old key) }
 {
     let mut left = pins.len();
     while left > 0 {
@@ -39,7 +40,7 @@ fn put_keys_at(keys: &mut KeySet, pins: &[PinRow], home: &[u16], verified: u32)
 /// 221, PIN and key references). It goes through the PINs once for each directory on the path, at
 /// most five times.
 pub fn met_keys(pins: &[PinRow], directory: &[u16], verified: u32) -> KeySet
-    ensures { (key : ℕ) → has result key ≡ met pins.now (is_set verified) directory.now key }
+    ensures { (key : ℕ) → has result key ≡ met pins.now (is_verified verified) directory.now key }
 {
     let mut keys = KeySet::none();
     put_keys_at(&mut keys, pins, &[], verified);

@@ -1,4 +1,4 @@
-use Rattle.std.specs.Prelude.{ℕ, Bool, true, false, ◌≡◌, ◌≢◌, ◌≤◌, ◌*◌, List, [], length, IsTrue}
+use Rattle.std.specs.Prelude.{ℕ, Bool, true, false, ◌||◌, ◌≡◌, ◌≢◌, ◌≤◌, ◌*◌, List, [], length, IsTrue}
 use Rattle.file_rows.specs.Path.{IsIn, master}
 use Rattle.file_rows.specs.declared.head.FileHead.{FileHead}
 use Rattle.file_rows.specs.declared.head.Kind.{Kind}
@@ -36,6 +36,18 @@ is_linear Application = false
 is_linear Transparent = false
 is_linear Linear = true
 is_linear Cyclic = false
+
+abbrev pub is_cyclic : Kind → Bool
+is_cyclic Master = false
+is_cyclic Directory = false
+is_cyclic Application = false
+is_cyclic Transparent = false
+is_cyclic Linear = false
+is_cyclic Cyclic = true
+
+-- whether files of this kind have records
+abbrev pub has_records : Kind → Bool
+has_records kind = is_linear kind || is_cyclic kind
 
 -- a file that holds files has no size, no records and no SFI
 pub record IsBare (head : FileHead) : Type 0 where

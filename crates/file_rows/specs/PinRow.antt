@@ -1,4 +1,5 @@
-use Rattle.std.specs.Prelude.{ℕ, ◌≡◌, ◌≢◌, ◌≤◌, ◌⊎◌, IfSome}
+use Rattle.std.specs.Prelude.{ℕ, Bool, ◌-◌, ◌==◌, ◌≡◌, ◌≢◌, ◌≤◌, ◌⊎◌, IfSome}
+use Rattle.std.specs.Int.{bit_at}
 use Rattle.file_rows.specs.Path.{master}
 use Rattle.file_rows.specs.declared.pin.PinRow.{PinRow}
 
@@ -28,3 +29,7 @@ pub record IsPin (pin : PinRow) : Type 0 where
 pub record ShareKey (one other : PinRow) : Type 0 where
   pub home : one.home ≡ other.home
   pub key : one.key ≡ other.key
+
+-- whether the PIN with this number is verified, where bit n - 1 stands for the PIN with number n
+abbrev pub is_verified : ℕ → ℕ → Bool
+is_verified verified number = bit_at verified (number - 1) == 1

@@ -17,6 +17,14 @@ impl FileHead {
     {
         self.kind.holds_files() && is_in(self.path.as_slice(), file.path.as_slice())
     }
+
+    /// Whether two files can stand in one content: they differ in path, in SFI where they have one
+    /// and stand in one directory, and in name where they have one.
+    pub fn is_apart(&self, other: &FileHead) -> bool
+        ensures { IsTrue result ↔ AreFilesApart self.now other.now }
+    {
+        self.path != other.path && !share_sfi(self, other) && !share_name(self, other)
+    }
 }
 
 // Whether one of the files is the directory of a file.
@@ -108,17 +116,11 @@ fn share_name(one: &FileHead, other: &FileHead) -> bool
     !one.name.is_empty() && one.name == other.name
 }
 
-pub fn is_apart(one: &FileHead, other: &FileHead) -> bool
-    ensures { IsTrue result ↔ AreFilesApart one.now other.now }
-{
-    one.path != other.path && !share_sfi(one, other) && !share_name(one, other)
-}
-
 fn is_apart_from(file: &FileHead, later: &[FileRow]) -> bool
     ensures { IsTrue result ↔ AllByRecursion (λ row. AreFilesApart file.now row.head) later.now }
 {
     for row in later {
-        if !is_apart(file, &row.head) {
+        if !file.is_apart(&row.head) {
             return false;
         }
     }

@@ -8,9 +8,8 @@ ghost use Rattle.file_rows.specs.Content.{IsValid, file_at, use_of};
 ghost use Rattle.file_rows.specs.FileHead.{Holds, IsFile};
 ghost use Rattle.file_rows.specs.Path.{same_path};
 
-use crate::files::{has_directory, is_apart, is_root};
-use crate::pins::is_pin;
-use crate::{Change, Content, FileHead, FileRow, Kind, Path, Piece, PinRow, QUOTA, used};
+use crate::files::{has_directory, is_root};
+use crate::{Change, Content, FileHead, FileRow, Path, Piece, PinRow, QUOTA, used};
 
 fn is_at(row: &FileRow, path: &Path) -> bool
     ensures { result ≡ same_path row.now.head.path path.now }
@@ -37,7 +36,7 @@ fn is_record_for(row: &FileRow, number: u8, bytes: &Piece) -> bool
         return false;
     }
     if number == 0 {
-        return row.head.kind == Kind::Cyclic;
+        return row.head.kind.is_cyclic();
     }
     let end = u16::from(number) * u16::from(row.head.record_len);
     row.head.record_len >= 1 && end <= row.head.size
@@ -72,7 +71,7 @@ fn are_apart_from(rows: &[FileRow], file: &FileHead) -> bool
     ensures { IsTrue result ↔ AllByRecursion (λ row. AreFilesApart row.head file.now) rows.now }
 {
     for row in rows {
-        if !is_apart(&row.head, file) {
+        if !row.head.is_apart(file) {
             return false;
         }
     }
@@ -119,7 +118,7 @@ impl Content {
     fn is_pin_of(&self, set: &PinRow) -> bool
         ensures { IsTrue result ↔ IsPinOf self.now.pins set.now }
     {
-        has_pin(self.pins.as_slice(), set) && is_pin(set)
+        has_pin(self.pins.as_slice(), set) && set.is_pin()
     }
 
     fn is_new_file(&self, head: &FileHead) -> bool

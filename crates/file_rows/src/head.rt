@@ -1,5 +1,5 @@
 ghost use Rattle.std.specs.Prelude.{◌≡◌};
-ghost use Rattle.file_rows.specs.FileHead.{holds_files, is_application};
+ghost use Rattle.file_rows.specs.FileHead.{has_records, holds_files, is_application, is_cyclic};
 
 use crate::Path;
 use plain_lists::ShortList;
@@ -38,6 +38,20 @@ impl Kind {
         ensures { result ≡ is_application self }
     {
         matches!(self, Kind::Application)
+    }
+
+    /// Whether files of this kind have records: the linear fixed and the cyclic ones.
+    pub fn has_records(self) -> bool
+        ensures { result ≡ has_records self }
+    {
+        matches!(self, Kind::Linear | Kind::Cyclic)
+    }
+
+    /// Whether this is a cyclic file, whose last record comes before the first.
+    pub fn is_cyclic(self) -> bool
+        ensures { result ≡ is_cyclic self }
+    {
+        matches!(self, Kind::Cyclic)
     }
 }
 

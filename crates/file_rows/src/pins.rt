@@ -49,13 +49,17 @@ fn are_puk_tries(puk: &Option<Puk>) -> bool
     }
 }
 
-pub fn is_pin(pin: &PinRow) -> bool
-    ensures { IsTrue result ↔ IsPin pin.now }
-{
-    matches!(pin.number, 1..=32)
-        && is_key_at_home(pin)
-        && are_tries(pin.max, pin.left)
-        && are_puk_tries(&pin.puk)
+impl PinRow {
+    /// Whether a content may have this PIN: its number is 1 to 32, its key is global in the MF and
+    /// local elsewhere, and its tries, and those of its PUK, are 1 to 15 with no more left.
+    pub fn is_pin(&self) -> bool
+        ensures { IsTrue result ↔ IsPin self.now }
+    {
+        matches!(self.number, 1..=32)
+            && is_key_at_home(self)
+            && are_tries(self.max, self.left)
+            && are_puk_tries(&self.puk)
+    }
 }
 
 fn is_home(head: &FileHead, home: &Path) -> bool
@@ -80,7 +84,7 @@ fn is_at_home(pin: &PinRow, rows: &[FileRow]) -> bool
 fn is_formed(pin: &PinRow, rows: &[FileRow]) -> bool
     ensures { IsTrue result ↔ (IsPin pin.now × IsAtHome (heads_of rows.now) pin.now) }
 {
-    is_pin(pin) && is_at_home(pin, rows)
+    pin.is_pin() && is_at_home(pin, rows)
 }
 
 fn are_formed(pins: &[PinRow], rows: &[FileRow]) -> bool

@@ -10,7 +10,7 @@ use Rattle.uicc_channels.specs.Session.{Suits, open_channel}
 use Rattle.uicc_data.proofs.BinaryLemmas.{CanCarryOut-read_binary, CanCarryOut-update_binary}
 use Rattle.uicc_data.proofs.RecordCarryLemmas.{CanCarryOut-read_record, CanCarryOut-update_record}
 use Rattle.uicc_data.proofs.SearchCarryLemmas.{CanCarryOut-increase, CanCarryOut-search_record}
-use Rattle.uicc_data.specs.CarriesOut.{content_after}
+use Rattle.uicc_channels.specs.CarriesOut.{content_after}
 use Rattle.uicc_select.proofs.SelectionLemmas.{change-select_row, change-status_row}
 use Rattle.uicc_select.proofs.SuitsLemmas.{AreRows-valid, Suits-select_row, Suits-status_row}
 use Rattle.uicc_select.specs.Select.{select_row}

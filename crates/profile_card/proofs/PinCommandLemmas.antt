@@ -19,7 +19,8 @@ use Rattle.pin_state.specs.PinCommand.{PinCommand, outcome}
 use Rattle.pin_state.specs.PinOutcome.{PinOutcome}
 use Rattle.pin_state.specs.SamePin.{same_pin}
 use Rattle.uicc_channels.specs.Session.{Suits, open_channel}
-use Rattle.uicc_channels.specs.Verified.{is_verified, verified_after}
+use Rattle.uicc_channels.specs.Verified.{verified_after}
+use Rattle.file_rows.specs.PinRow.{is_verified}
 use Rattle.uicc_channels.specs.declared.session.Session.{Session}
 use Rattle.profile_card.specs.Card.{Card, IsSound, MayFollow}
 use Rattle.profile_card.specs.PinCommands.{done_where, pin_command, pin_done, pin_row}

@@ -8,9 +8,9 @@ use Rattle.file_rows.specs.declared.change.Change.{Change}
 use Rattle.uicc_channels.proofs.SessionLemmas.{Suits-fresh_session}
 use Rattle.uicc_channels.specs.CommandOutcome.{CommandOutcome, refused}
 use Rattle.uicc_channels.specs.Session.{fresh_session}
-use Rattle.uicc_channels.specs.Verified.{is_verified}
+use Rattle.file_rows.specs.PinRow.{is_verified}
 use Rattle.uicc_channels.specs.declared.decided.Decided.{Decided}
-use Rattle.uicc_data.specs.CarriesOut.{content_after}
+use Rattle.uicc_channels.specs.CarriesOut.{content_after}
 use Rattle.profile_card.proofs.FollowLemmas.{MayFollow-decision}
 use Rattle.profile_card.specs.Card.{Card, IsSound, MayFollow, card_after, outcome_at, settled}
 use Rattle.profile_card.specs.Commands.{decision}

@@ -1,5 +1,6 @@
 use Rattle.std.specs.Prelude.{ℕ, Bool, false, Option, List, option_map, unwrap_or}
-use Rattle.access_rules.specs.Met.{allowed, is_set}
+use Rattle.access_rules.specs.Met.{allowed}
+use Rattle.file_rows.specs.PinRow.{is_verified}
 use Rattle.file_rows.specs.Content.{IsValid}
 use Rattle.file_rows.specs.declared.mode.Mode.{Mode}
 use Rattle.file_rows.specs.declared.content.Content.{Content}
@@ -9,7 +10,7 @@ use Rattle.uicc_channels.specs.CommandOutcome.{CommandOutcome, outcome_of}
 use Rattle.uicc_channels.specs.Session.{Suits}
 use Rattle.uicc_channels.specs.declared.decided.Decided.{Decided}
 use Rattle.uicc_channels.specs.declared.session.Session.{Session}
-use Rattle.uicc_data.specs.CarriesOut.{CanCarryOut, content_after}
+use Rattle.uicc_channels.specs.CarriesOut.{CanCarryOut, content_after}
 
 -- a card of one profile: what it holds, its session, how the ports are shared, and its port, where
 -- it stands on one
@@ -25,7 +26,7 @@ isdr_here card = unwrap_or (option_map (has_isdr card.mode) card.port) false
 
 -- what the access rules of the card allow in its session
 abbrev pub allowed_at : Card → List ℕ → Mode → Bool
-allowed_at card path mode = allowed card.content (is_set card.session.verified) path mode
+allowed_at card path mode = allowed card.content (is_verified card.session.verified) path mode
 
 -- the card holds what a card may hold, and its session names what is there
 pub record IsSound (card : Card) : Type 0 where

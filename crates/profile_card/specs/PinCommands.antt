@@ -14,7 +14,8 @@ use Rattle.uicc_channels.specs.CommandOutcome.{CommandOutcome, answering}
 use Rattle.uicc_channels.specs.CommandRow.{CommandRow}
 use Rattle.uicc_channels.specs.Needs.{needs_of, refused_unless}
 use Rattle.uicc_channels.specs.Session.{open_channel}
-use Rattle.uicc_channels.specs.Verified.{is_verified, verified_after}
+use Rattle.uicc_channels.specs.Verified.{verified_after}
+use Rattle.file_rows.specs.PinRow.{is_verified}
 use Rattle.uicc_channels.specs.declared.session.Session.{Session}
 use Rattle.profile_card.specs.declared.pin_commands.PinInstruction.{PinInstruction}
 use Rattle.profile_card.specs.declared.pin_commands.PinInstruction.TheVariants.{Change, Disable, Enable, Unblock, Verify}

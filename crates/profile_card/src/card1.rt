@@ -111,14 +111,15 @@ impl Model for Card1 {
 }
 
 impl Guard for Card1 {
-    ghost use Rattle.access_rules.specs.Met.{allowed, is_set};
+    ghost use Rattle.access_rules.specs.Met.{allowed};
+    ghost use Rattle.file_rows.specs.PinRow.{is_verified};
     ghost use Rattle.uicc_tree.specs.Files.{IsLive, path_of};
     ghost use Rattle.profile_card.specs.CardState.{content_of};
 
     ghost knows = { λ card node. IsLive card.tree node };
 
     ghost answer = { λ card node mode session. allowed (content_of card)
-        (is_set session.verified) (path_of card.tree node) mode };
+        (is_verified session.verified) (path_of card.tree node) mode };
 
     /// Whether the access rules of the card allow it, where these PINs are verified (ETSI TS 102
     /// 221, access rules referenced in EF ARR). It reads one record once, and takes no memory.

@@ -5,7 +5,8 @@ ghost use Rattle.std.specs.Prelude.{◌≡◌, ◌≤◌, [], length, map, optio
 ghost use Rattle.file_rows.specs.Content.{AreFiles};
 ghost use Rattle.plain_lists.specs.FirstOf.{first_of};
 ghost use Rattle.access_rules.specs.May.{arr_of, enclosing, linear_in, record_at, record_named, rule_directory};
-ghost use Rattle.access_rules.specs.Met.{allowed, is_set, key_directory};
+ghost use Rattle.access_rules.specs.Met.{allowed, key_directory};
+ghost use Rattle.file_rows.specs.PinRow.{is_verified};
 ghost use Rattle.uicc_tree.specs.Files.{Gives, IsLive, file_of, path_of, rows_of};
 
 use access_rules::{Mode, met_keys, record_allows};
@@ -86,7 +87,7 @@ pub(crate) fn allows(tree: &Tree, pins: &[PinRow], node: u32, mode: Mode, verifi
     requires live { IsLive tree.now node }
     requires files { AreFiles (rows_of tree.now) }
     ensures { result
-        ≡ allowed (record { rows = rows_of tree.now; pins = pins.now }) (is_set verified)
+        ≡ allowed (record { rows = rows_of tree.now; pins = pins.now }) (is_verified verified)
         (path_of tree.now node) mode }
 {
     let head = tree.head(node);

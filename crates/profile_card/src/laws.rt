@@ -4,7 +4,7 @@ ghost use Rattle.apdu_codec.specs.Sw.{bytes_waiting, tries_left, wrong_le};
 ghost use Rattle.apdu_codec.specs.declared.answers.Answer.{Answer};
 ghost use Rattle.case_table.specs.CaseRows.{value_of};
 ghost use Rattle.uicc_channels.specs.CommandOutcome.{refused};
-ghost use Rattle.uicc_channels.specs.Verified.{is_verified};
+ghost use Rattle.file_rows.specs.PinRow.{is_verified};
 ghost use Rattle.profile_card.specs.Card.{Card, IsSound};
 ghost use Rattle.profile_card.specs.Commands.{decision};
 ghost use Rattle.profile_card.specs.Own.{is_common};

@@ -3,7 +3,8 @@ use Rattle.std.proofs.lemmas.Nat.{pow_below}
 use Rattle.std.proofs.lemmas.Nat.Bits.{bit_at-lt, bit_at-pow_other, bit_at-pow_same, bit_at_and, bit_at_not, bit_at_or}
 use Rattle.std.specs.Int.{bit_at, bit_not, w32}
 use Rattle.std.specs.Prelude.{bit_and, bit_or, min}
-use Rattle.uicc_channels.specs.Verified.{is_verified, verified_after}
+use Rattle.uicc_channels.specs.Verified.{verified_after}
+use Rattle.file_rows.specs.PinRow.{is_verified}
 
 -- 2 to a number below 32 fits 32 bits
 pow_fits : (k : ℕ) → k < 32 → 2 ^ k < 2 ^ 32

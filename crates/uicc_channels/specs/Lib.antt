@@ -1,3 +1,4 @@
+pub mod CarriesOut
 pub mod Chan
 pub mod CommandOutcome
 pub mod CommandRow

@@ -1,9 +1,6 @@
 -- The PINs that are verified in a session, as its bits: bit n - 1 stands for the PIN with number n.
-use Rattle.std.specs.Prelude.{ℕ, ◌-◌, ◌^◌, ◌==◌, Bool, true, false, bit_and, bit_or}
-use Rattle.std.specs.Int.{bit_at, bit_not, w32}
-
-abbrev pub is_verified : ℕ → ℕ → Bool
-is_verified verified number = bit_at verified (number - 1) == 1
+use Rattle.std.specs.Prelude.{ℕ, ◌-◌, ◌^◌, Bool, true, false, bit_and, bit_or}
+use Rattle.std.specs.Int.{bit_not, w32}
 
 -- the verified PINs with one of them verified, or not
 abbrev pub verified_after : ℕ → ℕ → Bool → ℕ

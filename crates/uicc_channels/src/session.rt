@@ -1,6 +1,7 @@
 ghost use Rattle.std.specs.Prelude.{◌≡◌, ◌+◌, ◌<◌, ◌≤◌, ◌++◌, length, IfSome, option_copied};
 ghost use Rattle.uicc_channels.specs.Session.{IsOpen, channel_at, fresh_session, open_channel, reset_session};
-ghost use Rattle.uicc_channels.specs.Verified.{is_verified, verified_after};
+ghost use Rattle.uicc_channels.specs.Verified.{verified_after};
+ghost use Rattle.file_rows.specs.PinRow.{is_verified};
 
 use crate::Chan;
 use plain_lists::ShortList;

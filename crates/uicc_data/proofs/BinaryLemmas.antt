@@ -20,7 +20,7 @@ use Rattle.uicc_data.proofs.CarryLemmas.{CanCarryOut-refused, apart_rows, at_its
 use Rattle.uicc_data.proofs.RowLemmas.{on_file-has, where_named-has}
 use Rattle.uicc_data.proofs.SuitsLemmas.{IsAmong, Suits-using, Suits-written, chan_stands, named_among, pointer_stands}
 use Rattle.uicc_data.specs.Binary.{binary_place, read_binary_row, reading, update_binary_row, write_refusal, writing}
-use Rattle.uicc_data.specs.CarriesOut.{CanCarryOut}
+use Rattle.uicc_channels.specs.CarriesOut.{CanCarryOut}
 use Rattle.uicc_data.specs.FileReference.{file_named, not_there, pointer_at, using}
 use Rattle.uicc_data.specs.FileUse.{needs_of_reading, needs_of_writing}
 use Rattle.uicc_data.specs.declared.binary.BinaryPlace.{BinaryPlace}

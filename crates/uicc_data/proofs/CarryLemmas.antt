@@ -9,7 +9,7 @@ use Rattle.uicc_channels.specs.CommandOutcome.{refused}
 use Rattle.uicc_channels.specs.Session.{Suits}
 use Rattle.uicc_channels.specs.declared.session.Session.{Session}
 use Rattle.uicc_data.proofs.SuitsLemmas.{AreApart, IsAmong}
-use Rattle.uicc_data.specs.CarriesOut.{CanCarryOut}
+use Rattle.uicc_channels.specs.CarriesOut.{CanCarryOut}
 
 -- no two files of a card have one path
 pub apart_rows : (content : Content) → IsValid content → AreApart content.rows

@@ -15,7 +15,7 @@ use Rattle.uicc_data.proofs.BinaryLemmas.{CanCarryOut-read_binary, CanCarryOut-u
 use Rattle.uicc_data.proofs.RecordCarryLemmas.{CanCarryOut-read_record, CanCarryOut-update_record}
 use Rattle.uicc_data.proofs.SearchCarryLemmas.{CanCarryOut-increase, CanCarryOut-search_record}
 use Rattle.uicc_data.specs.Binary.{read_binary_row, update_binary_row}
-use Rattle.uicc_data.specs.CarriesOut.{CanCarryOut}
+use Rattle.uicc_channels.specs.CarriesOut.{CanCarryOut}
 use Rattle.uicc_data.specs.Data.{data_row}
 use Rattle.uicc_data.specs.Increase.{increase_row}
 use Rattle.uicc_data.specs.Record.{read_record_row, update_record_row}

@@ -8,7 +8,7 @@ use Rattle.apdu_codec.specs.declared.status.TheConstants.Sw.{WRONG_LENGTH}
 use Rattle.file_rows.proofs.ConditionLemmas.{fits_where}
 use Rattle.file_rows.specs.Change.{IsRecordFor, with_record}
 use Rattle.file_rows.specs.Content.{IsValid}
-use Rattle.file_rows.specs.FileHead.{HasRecord, holds_files, is_linear}
+use Rattle.file_rows.specs.FileHead.{HasRecord, has_records, holds_files, is_cyclic, is_linear}
 use Rattle.file_rows.specs.declared.change.Change.TheVariants.{WriteRecord}
 use Rattle.file_rows.specs.declared.content.Content.{Content}
 use Rattle.file_rows.specs.declared.head.FileHead.{FileHead}
@@ -27,11 +27,10 @@ use Rattle.uicc_data.proofs.CarryLemmas.{CanCarryOut-refused, apart_rows, at_its
 use Rattle.uicc_data.proofs.RecordLemmas.{has_record, record_there, whole_records}
 use Rattle.uicc_data.proofs.RowLemmas.{is_met, on_file-has, where_named-has}
 use Rattle.uicc_data.proofs.SuitsLemmas.{IsAmong, Suits-using, Suits-written, chan_stands, named_among, pointer_stands}
-use Rattle.uicc_data.specs.CarriesOut.{CanCarryOut}
+use Rattle.uicc_channels.specs.CarriesOut.{CanCarryOut}
 use Rattle.uicc_data.specs.FileReference.{file_named, not_there, pointer_at}
 use Rattle.uicc_data.specs.FileUse.{needs_of_reading, needs_of_writing}
 use Rattle.uicc_data.specs.Record.{RecordUse, at_record, is_previous, new_first_record, read_record_row, reading_number, reading_record, record_place, update_record_row, write_place, writing_number, writing_record}
-use Rattle.uicc_data.specs.RecordKind.{has_records, is_cyclic}
 use Rattle.uicc_data.specs.RecordWalk.{HoldsWholeRecords, IsPointerIn, pointer_after, record_in}
 use Rattle.uicc_data.specs.declared.record_update.WritePlace.{WritePlace}
 use Rattle.uicc_data.specs.declared.reference.FileReference.{FileReference}

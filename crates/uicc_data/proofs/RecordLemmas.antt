@@ -6,7 +6,7 @@ use Rattle.std.specs.List.{AllByRecursion}
 use Rattle.std.specs.Prelude.{◌==◌, nat_lt}
 use Rattle.file_rows.proofs.FilesLemmas.{formed_of}
 use Rattle.file_rows.proofs.ListLemmas.{contains_cases}
-use Rattle.file_rows.specs.FileHead.{HasForm, HasRecord, HoldsRecords, IsFile}
+use Rattle.file_rows.specs.FileHead.{HasForm, HasRecord, HoldsRecords, IsFile, has_records, is_cyclic}
 use Rattle.file_rows.specs.declared.head.FileHead.{FileHead}
 use Rattle.file_rows.specs.declared.head.Kind.{Kind}
 use Rattle.file_rows.specs.declared.head.Kind.TheVariants.{Master, Directory, Application, Transparent, Linear, Cyclic}
@@ -14,7 +14,6 @@ use Rattle.file_rows.specs.declared.row.FileRow.{FileRow}
 use Rattle.uicc_tree.proofs.GivesLemmas.{nothing_there}
 use Rattle.uicc_tree.specs.Change.{AreRows, IsRow}
 use Rattle.uicc_tree.specs.Files.{Files, IsLive, file_of, rows_of}
-use Rattle.uicc_data.specs.RecordKind.{has_records, is_cyclic}
 use Rattle.uicc_data.specs.RecordWalk.{HoldsWholeRecords, IsPointerIn, next_record, previous_record, record_count, record_in, number_named, record_numbered}
 use Rattle.uicc_data.specs.declared.walk.RecordName.{RecordName}
 use Rattle.uicc_data.specs.declared.walk.RecordName.TheVariants.{Next, Previous, Absolute, Current}

@@ -27,7 +27,7 @@ use Rattle.uicc_data.proofs.RecordCarryLemmas.{OnRecords, are_rows, at_record-ha
 use Rattle.uicc_data.proofs.RecordLemmas.{IsUpTo, cyclic_has, first_record, has_record, record_there, up_to_count}
 use Rattle.uicc_data.proofs.RowLemmas.{first_none, on_file-has, rest_none, where_named-has}
 use Rattle.uicc_data.proofs.SuitsLemmas.{IsAmong, Suits-using, Suits-written, named_among}
-use Rattle.uicc_data.specs.CarriesOut.{CanCarryOut}
+use Rattle.uicc_channels.specs.CarriesOut.{CanCarryOut}
 use Rattle.uicc_data.specs.FileReference.{file_named, not_there, pointer_at, using}
 use Rattle.uicc_data.specs.FileUse.{needs_of_writing}
 use Rattle.uicc_data.specs.Increase.{can_be_added, giving_sum, increase_file, increase_row, increasing}

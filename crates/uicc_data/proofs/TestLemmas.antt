@@ -15,7 +15,7 @@ use Rattle.uicc_tree.proofs.ApplyLemmas.{rows_alike}
 use Rattle.uicc_tree.proofs.TestLemmas.{rows_kept}
 use Rattle.uicc_tree.specs.Change.{FitsFiles, rows_after}
 use Rattle.uicc_tree.specs.Files.{Files, rows_of}
-use Rattle.uicc_data.specs.CarriesOut.{CanCarryOut, IsOfCard, content_after}
+use Rattle.uicc_channels.specs.CarriesOut.{CanCarryOut, IsOfCard, content_after}
 
 module _ (old new : Files) (nodes : new.nodes ≡ old.nodes) (cells : new.cells ≡ old.cells) (pins : List PinRow) (session : Session) (decided : Decided) (change : Change)
     (can : CanCarryOut (record { rows = rows_of old; pins = pins }) (outcome_of session decided)) (is : decided.change ≡ Some change) where

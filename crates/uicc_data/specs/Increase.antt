@@ -18,7 +18,7 @@ use Rattle.uicc_data.specs.FileReference.{using}
 use Rattle.uicc_data.specs.FileUse.{FileUse, needs_of_writing, on_named, where_named}
 use Rattle.uicc_data.specs.Number.{sum_of}
 use Rattle.uicc_data.specs.Record.{RecordUse, new_first_record}
-use Rattle.uicc_data.specs.RecordKind.{is_cyclic}
+use Rattle.file_rows.specs.FileHead.{is_cyclic}
 use Rattle.uicc_data.specs.RecordWalk.{record_bytes}
 use Rattle.uicc_data.specs.declared.reference.FileReference.{FileReference}
 use Rattle.uicc_data.specs.declared.reference.FileReference.TheVariants.{CurrentEf, Sfi}

@@ -1,6 +1,5 @@
 pub mod Access
 pub mod Binary
-pub mod CarriesOut
 pub mod Data
 pub mod FileReference
 pub mod FileUse
@@ -9,6 +8,5 @@ pub mod Moves
 pub mod Number
 pub mod ReadBack
 pub mod Record
-pub mod RecordKind
 pub mod RecordWalk
 pub mod Search

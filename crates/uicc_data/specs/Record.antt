@@ -4,7 +4,7 @@ use Rattle.apdu_codec.specs.Answer.{status_alone}
 use Rattle.apdu_codec.specs.Command.{Apdu}
 use Rattle.apdu_codec.specs.declared.status.Sw.{Sw}
 use Rattle.apdu_codec.specs.declared.status.TheConstants.Sw.{OK, RECORD_NOT_FOUND, WRONG_LENGTH}
-use Rattle.file_rows.specs.FileHead.{is_linear}
+use Rattle.file_rows.specs.FileHead.{has_records, is_cyclic, is_linear}
 use Rattle.file_rows.specs.declared.change.Change.TheVariants.{WriteRecord}
 use Rattle.file_rows.specs.declared.head.FileHead.{FileHead}
 use Rattle.file_rows.specs.declared.mode.Mode.{Mode}
@@ -19,7 +19,6 @@ use Rattle.uicc_channels.specs.declared.decided.Decided.{Decided}
 use Rattle.uicc_channels.specs.declared.session.Session.{Session}
 use Rattle.uicc_data.specs.FileReference.{pointer_at, using}
 use Rattle.uicc_data.specs.FileUse.{FileUse, needs_of_reading, needs_of_writing, on_named, where_named}
-use Rattle.uicc_data.specs.RecordKind.{has_records, is_cyclic}
 use Rattle.uicc_data.specs.RecordWalk.{pointer_after, record_bytes, record_in}
 use Rattle.uicc_data.specs.declared.walk.RecordName.{RecordName}
 use Rattle.uicc_data.specs.declared.walk.RecordName.TheVariants.{Next, Previous, Absolute, Current}

@@ -15,7 +15,7 @@ use Rattle.uicc_channels.specs.declared.session.Session.{Session}
 use Rattle.uicc_data.specs.FileReference.{pointer_at, using}
 use Rattle.uicc_data.specs.FileUse.{FileUse, needs_of_writing, on_named, where_named}
 use Rattle.uicc_data.specs.Record.{RecordUse, at_record, numbered, record_file}
-use Rattle.uicc_data.specs.RecordKind.{has_records}
+use Rattle.file_rows.specs.FileHead.{has_records}
 use Rattle.uicc_data.specs.RecordWalk.{record_bytes, record_count, record_in}
 use Rattle.uicc_data.specs.declared.search.Direction.{Direction}
 use Rattle.uicc_data.specs.declared.search.Direction.TheVariants.{Forwards, Backwards}

@@ -10,13 +10,13 @@ ghost use Rattle.uicc_data.specs.Access.{AnswersFor};
 ghost use Rattle.uicc_data.specs.FileUse.{FollowsUse};
 ghost use Rattle.uicc_data.specs.Increase.{can_be_added, giving_sum, increase_file, increase_row, increasing};
 ghost use Rattle.uicc_data.specs.Record.{FollowsRecordUse};
-ghost use Rattle.uicc_data.specs.RecordKind.{is_cyclic};
+ghost use Rattle.file_rows.specs.FileHead.{is_cyclic};
 ghost use Rattle.uicc_data.specs.RecordWalk.{record_bytes};
 
 use crate::delivery::deliver_on;
 use crate::number::sum_of;
 use crate::reference::{FileReference, find_file};
-use crate::walk::{is_cyclic, record_bytes};
+use crate::walk::record_bytes;
 use apdu_codec::{AnswerBody, Command, Sw, class_fits};
 use file_rows::{Change, Mode, Path, Piece};
 use uicc_channels::{Decided, Guard, Session, conclude, require, require_active, require_le};
@@ -148,7 +148,7 @@ fn try_increase<G: Guard>(
     let chan = session.open_channel(command.channel);
     let node = find_file(tree, chan, file)?;
     let head = tree.head(node);
-    require(is_cyclic(head.kind), Sw::INCOMPATIBLE_STRUCTURE)?;
+    require(head.kind.is_cyclic(), Sw::INCOMPATIBLE_STRUCTURE)?;
     require_active(head.life)?;
     let allowed = guard.allows(node, Mode::Ins(0x32), session);
     require(allowed, Sw::SECURITY_NOT_SATISFIED)?;

@@ -12,7 +12,7 @@ ghost use Rattle.uicc_channels.specs.Session.{Suits, channel_at};
 ghost use Rattle.uicc_channels.specs.declared.chan.Chan.{Chan};
 ghost use Rattle.uicc_channels.specs.declared.session.Session.{Session};
 ghost use Rattle.uicc_data.specs.Binary.{read_binary_row, update_binary_row};
-ghost use Rattle.uicc_data.specs.CarriesOut.{CanCarryOut};
+ghost use Rattle.uicc_channels.specs.CarriesOut.{CanCarryOut};
 ghost use Rattle.uicc_data.specs.Data.{data_row};
 ghost use Rattle.uicc_data.specs.Increase.{increase_row};
 ghost use Rattle.uicc_data.specs.Moves.{MovesAlone, MovesAndWaits};

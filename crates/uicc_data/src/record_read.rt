@@ -11,13 +11,11 @@ ghost use Rattle.uicc_data.specs.Access.{AnswersFor};
 ghost use Rattle.uicc_data.specs.FileReference.{pointer_at, using};
 ghost use Rattle.uicc_data.specs.FileUse.{FollowsUse};
 ghost use Rattle.uicc_data.specs.Record.{read_record_row, reading_record};
-ghost use Rattle.uicc_data.specs.RecordKind.{has_records};
+ghost use Rattle.file_rows.specs.FileHead.{has_records};
 ghost use Rattle.uicc_data.specs.RecordWalk.{IsPointerIn};
 
 use crate::reference::{find_file, pointer_at, use_file};
-use crate::walk::{
-    RecordPlace, find_record, has_records, pointer_after, record_bytes, record_place,
-};
+use crate::walk::{RecordPlace, find_record, pointer_after, record_bytes, record_place};
 use apdu_codec::{Command, Sw, class_fits};
 use file_rows::{Mode, Path};
 use uicc_channels::{Decided, Guard, Session, conclude, require, require_active, require_le};
@@ -137,7 +135,7 @@ fn try_read_record<G: Guard>(
     let chan = session.open_channel(command.channel);
     let node = find_file(tree, chan, place.file)?;
     let head = tree.head(node);
-    require(has_records(head.kind), Sw::INCOMPATIBLE_STRUCTURE)?;
+    require(head.kind.has_records(), Sw::INCOMPATIBLE_STRUCTURE)?;
     require_active(head.life)?;
     let allowed = guard.allows(node, Mode::Bit(0x01), session);
     require(allowed, Sw::SECURITY_NOT_SATISFIED)?;

@@ -1,6 +1,6 @@
 ghost use Rattle.std.specs.Prelude.{◌≡◌, ◌==◌, ◌&&◌, ◌||◌, ℕ, Bool, List, length, Some, None, IsTrue};
 ghost use Rattle.apdu_codec.specs.Command.{IsCommand, apdu_of};
-ghost use Rattle.file_rows.specs.FileHead.{is_linear};
+ghost use Rattle.file_rows.specs.FileHead.{has_records, is_cyclic, is_linear};
 ghost use Rattle.file_rows.specs.declared.mode.Mode.{Mode};
 ghost use Rattle.uicc_channels.specs.CommandOutcome.{outcome_of};
 ghost use Rattle.uicc_channels.specs.CommandRow.{Follows, decided};
@@ -9,11 +9,10 @@ ghost use Rattle.uicc_tree.specs.Change.{AreRows};
 ghost use Rattle.uicc_tree.specs.Files.{IsLive, file_of, rows_of};
 ghost use Rattle.uicc_data.specs.Access.{AnswersFor};
 ghost use Rattle.uicc_data.specs.Record.{is_previous, update_record_row, write_place};
-ghost use Rattle.uicc_data.specs.RecordKind.{has_records, is_cyclic};
 ghost use Rattle.uicc_data.specs.RecordWalk.{IsPointerIn};
 
 use crate::reference::{find_file, pointer_at, use_file};
-use crate::walk::{RecordName, find_record, is_cyclic, pointer_after, record_place};
+use crate::walk::{RecordName, find_record, pointer_after, record_place};
 use apdu_codec::{Command, Sw, class_fits};
 use file_rows::{Change, Kind, Mode, Piece};
 use uicc_channels::{Decided, Guard, Session, conclude, require, require_active};
@@ -46,7 +45,7 @@ fn find_write_place(tree: &Tree, node: u32, pointer: u8, name: RecordName) -> Op
     requires pointer { IsPointerIn (file_of tree.now node).head pointer }
     ensures { result ≡ write_place (file_of tree.now node).head pointer name }
 {
-    if is_cyclic(tree.head(node).kind) {
+    if tree.head(node).kind.is_cyclic() {
         return Some(WritePlace {
             number: 0,
             pointer: 1,

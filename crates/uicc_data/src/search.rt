@@ -1,6 +1,6 @@
 ghost use Rattle.std.specs.Prelude.{◌≡◌, ◌+◌, ◌-◌, ◌<◌, ◌≤◌, ◌==◌, cond, ℕ, Bool, List, [], ◌∷◌, ◌++◌, length, Some, None, IsTrue, MatchResult};
 ghost use Rattle.apdu_codec.specs.Command.{IsCommand, apdu_of};
-ghost use Rattle.file_rows.specs.FileHead.{HasRecord};
+ghost use Rattle.file_rows.specs.FileHead.{HasRecord, has_records};
 ghost use Rattle.file_rows.specs.declared.mode.Mode.{Mode};
 ghost use Rattle.uicc_channels.specs.CommandOutcome.{outcome_of};
 ghost use Rattle.uicc_channels.specs.CommandRow.{Follows, decided};
@@ -11,15 +11,12 @@ ghost use Rattle.uicc_data.specs.Access.{AnswersFor};
 ghost use Rattle.uicc_data.specs.FileReference.{pointer_at, using};
 ghost use Rattle.uicc_data.specs.FileUse.{FollowsUse};
 ghost use Rattle.uicc_data.specs.Record.{FollowsRecordUse};
-ghost use Rattle.uicc_data.specs.RecordKind.{has_records};
 ghost use Rattle.uicc_data.specs.RecordWalk.{IsPointerIn, record_bytes, record_count};
 ghost use Rattle.uicc_data.specs.Search.{after_steps, direction_of, first_one, found_from, giving_numbers, holds_run, records_left, search_place, search_record_row, search_start, searching};
 
 use crate::delivery::deliver_on;
 use crate::reference::{FileReference, find_file, pointer_at};
-use crate::walk::{
-    RecordName, find_record, has_records, numbered, record_bytes, record_count, record_file,
-};
+use crate::walk::{RecordName, find_record, numbered, record_bytes, record_count, record_file};
 use apdu_codec::{Command, Sw, class_fits};
 use file_rows::{Mode, Path};
 use plain_lists::ShortList;
@@ -271,7 +268,7 @@ fn try_search_record<G: Guard>(
     let chan = session.open_channel(command.channel);
     let node = find_file(tree, chan, place.file)?;
     let head = tree.head(node);
-    require(has_records(head.kind), Sw::INCOMPATIBLE_STRUCTURE)?;
+    require(head.kind.has_records(), Sw::INCOMPATIBLE_STRUCTURE)?;
     require_active(head.life)?;
     let allowed = guard.allows(node, Mode::Bit(0x01), session);
     require(allowed, Sw::SECURITY_NOT_SATISFIED)?;

@@ -5,7 +5,7 @@ ghost use Rattle.file_rows.specs.Content.{IsValid};
 ghost use Rattle.file_rows.specs.declared.pin.PinRow.{PinRow};
 ghost use Rattle.uicc_channels.specs.CommandOutcome.{outcome_of};
 ghost use Rattle.uicc_channels.specs.Session.{Suits};
-ghost use Rattle.uicc_data.specs.CarriesOut.{CanCarryOut, IsOfCard};
+ghost use Rattle.uicc_channels.specs.CarriesOut.{CanCarryOut, IsOfCard};
 ghost use Rattle.uicc_data.specs.Data.{IsOnData};
 ghost use Rattle.uicc_tree.specs.Files.{rows_of};
 

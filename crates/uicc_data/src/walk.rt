@@ -1,10 +1,9 @@
 //! The records of a file, and the walk over them.
 ghost use Rattle.std.specs.Prelude.{◌≡◌, ◌≤◌, ◌-◌, ◌*◌, ◌/◌, length, take, drop, Some, None, IfSome, IsTrue};
-ghost use Rattle.file_rows.specs.FileHead.{HasRecord};
+ghost use Rattle.file_rows.specs.FileHead.{HasRecord, has_records, is_cyclic};
 ghost use Rattle.uicc_tree.specs.Change.{AreRows};
 ghost use Rattle.uicc_tree.specs.Files.{IsLive, file_of, rows_of};
 ghost use Rattle.uicc_data.specs.Record.{numbered, record_file, record_name, record_place};
-ghost use Rattle.uicc_data.specs.RecordKind.{has_records, is_cyclic};
 ghost use Rattle.uicc_data.specs.RecordWalk.{HoldsWholeRecords, IsPointerIn, next_record, pointer_after, previous_record, record_bytes, record_count, record_in, number_named, record_numbered};
 
 use crate::reference::FileReference;
@@ -70,20 +69,6 @@ pub(crate) fn record_place(p1: u8, p2: u8) -> Option<RecordPlace>
     let file = record_file(p2)?;
     let name = record_name(p1, p2)?;
     Some(RecordPlace { file, name })
-}
-
-// Whether files of this kind have records.
-pub(crate) fn has_records(kind: Kind) -> bool
-    ensures { result ≡ has_records kind }
-{
-    matches!(kind, Kind::Linear | Kind::Cyclic)
-}
-
-// Whether the last record of files of this kind comes before the first.
-pub(crate) fn is_cyclic(kind: Kind) -> bool
-    ensures { result ≡ is_cyclic kind }
-{
-    matches!(kind, Kind::Cyclic)
 }
 
 // How many records of a length a body of this size has.
@@ -161,7 +146,7 @@ pub(crate) fn find_record(tree: &Tree, node: u32, pointer: u8, name: RecordName)
     ensures value { result ≡ record_in (file_of tree.now node).head pointer name }
     ensures there { IfSome result (HasRecord (file_of tree.now node).head) }
 {
-    let goes_round = is_cyclic(tree.head(node).kind);
+    let goes_round = tree.head(node).kind.is_cyclic();
     number_named(goes_round, record_count(tree, node), pointer, name)
 }
 

@@ -3,7 +3,7 @@ use Rattle.apdu_codec.specs.Command.{apdu_of}
 use Rattle.uicc_channels.specs.CommandOutcome.{CommandOutcome}
 use Rattle.uicc_tree.specs.Files.{rows_of}
 use Rattle.uicc_data.proofs.DataLemmas.{CanCarryOut-data}
-use Rattle.uicc_data.specs.CarriesOut.{CanCarryOut}
+use Rattle.uicc_channels.specs.CarriesOut.{CanCarryOut}
 use Rattle.uicc_data.proofs.tests.ask.Goals as goal
 
 pub carry_out-requires : goal.carry_out-requires

@@ -1,5 +1,5 @@
 use Rattle.uicc_tree.specs.Files.{rows_of}
-use Rattle.uicc_data.specs.CarriesOut.{IsOfCard}
+use Rattle.uicc_channels.specs.CarriesOut.{IsOfCard}
 use Rattle.uicc_data.proofs.tests.first_other.Given as goal
 
 -- a card holds the files, and the session suits them
