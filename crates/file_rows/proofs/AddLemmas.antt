@@ -25,7 +25,7 @@ module _ (head : FileHead) where
   heads_more : (rows : List FileRow) → heads_of (rows ++ new_file head ∷ []) ≡ heads_of rows ++ head ∷ []
   heads_more rows = map-append (λ (row : FileRow). row.head) rows (new_file head ∷ [])
 
-  use_more : (rows : List FileRow) → use_of (rows ++ new_file head ∷ []) ≡ use_of rows + (head.size + 32)
+  pub use_more : (rows : List FileRow) → use_of (rows ++ new_file head ∷ []) ≡ use_of rows + (head.size + 32)
   use_more rows =
       omega (arith, sum_by-append (λ (row : FileRow). length row.body + 32) rows (new_file head ∷ []), sum_by-cons (λ (row : FileRow). length row.body + 32) (new_file head) [], length-replicate {A = ℕ} head.size 255)
 

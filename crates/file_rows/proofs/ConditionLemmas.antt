@@ -31,11 +31,11 @@ file_is content valid path row found =
       found_has (λ r. length r.body ≡ r.head.size) (λ r. same_path r.head.path path) content.rows row system.files.bodies found,
     )
 
-some_found : (o : Option FileRow) → IsSome o → (row : FileRow) × (o ≡ Some row)
+pub some_found : (o : Option FileRow) → IsSome o → (row : FileRow) × (o ≡ Some row)
 some_found (Some row) there = (row, refl)
 some_found None there = absurd (cc)
 
-length-written : (offset : ℕ) (bytes body : List ℕ) → offset + length bytes ≤ length body → length (written offset bytes body) ≡ length body
+pub length-written : (offset : ℕ) (bytes body : List ℕ) → offset + length bytes ≤ length body → length (written offset bytes body) ≡ length body
 length-written offset bytes body inside =
     omega (arith, length-append (take offset body ++ bytes) (drop (offset + length bytes) body), length-append (take offset body) bytes, length-take-le offset body (omega (arith, inside)), length-drop (offset + length bytes) body)
 
@@ -66,7 +66,7 @@ one_at_least : (count len : ℕ) → 1 ≤ count → len ≤ count * len
 one_at_least zero len least = absurd (omega (arith, least))
 one_at_least (suc count) len least = omega (arith, one_more count len)
 
-record_long : (row : FileRow) (number : ℕ) (bytes : List ℕ) → IsFile row.head → length row.body ≡ row.head.size → IsRecordFor row number bytes
+pub record_long : (row : FileRow) (number : ℕ) (bytes : List ℕ) → IsFile row.head → length row.body ≡ row.head.size → IsRecordFor row number bytes
     → length (with_record number bytes row.body) ≡ length row.body
 record_long row zero bytes file body fits = ⊎_elim
     (λ place. absurd (omega (arith, place.first)))
@@ -121,7 +121,7 @@ fits_life content valid path life = (
       },
 )
 
-length-resized : (size : ℕ) (body : List ℕ) → length (resized size body) ≡ size
+pub length-resized : (size : ℕ) (body : List ℕ) → length (resized size body) ≡ size
 length-resized size body =
     omega (arith, length-append (take size body) (replicate (size - length body) 255), length-take size body, length-replicate {A = ℕ} (size - length body) 255)
 

@@ -13,3 +13,4 @@ pub mod PinSetLemmas
 pub mod GoneLemmas
 pub mod ConditionLemmas
 pub mod PinChangeLemmas
+pub mod UseLemmas

@@ -1,4 +1,4 @@
-use Rattle.std.specs.Prelude.{ℕ, zero, suc, ◌≡◌, ◌≤◌, ◌+◌, ◌-◌, ◌*◌, ◌⊎◌, List, [], ◌∷◌, ◌++◌, length, map, filter, take, drop, replicate, not, ◌==◌, if◌then◌else◌, Any, IsSome, IsNone, IsSomeAnd, IsTrue}
+use Rattle.std.specs.Prelude.{ℕ, zero, suc, ◌≡◌, ◌≤◌, ◌+◌, ◌-◌, ◌*◌, ◌⊎◌, List, [], ◌∷◌, ◌++◌, length, map, filter, take, drop, replicate, not, ◌==◌, if◌then◌else◌, Any, IsSome, IsNone, IsSomeAnd, IsTrue, ⊤}
 use Rattle.file_rows.specs.Content.{IsValid, file_at}
 use Rattle.file_rows.specs.FileHead.{HasRecord, Holds}
 use Rattle.file_rows.specs.Path.{same_path, stands_below}
@@ -122,3 +122,13 @@ TouchesPin (FileAdd head) pin = ⊥
 TouchesPin (FileGone path) pin = IsTrue (stands_below path pin.home)
 TouchesPin (FileState path life) pin = ⊥
 TouchesPin (FileSize path size) pin = ⊥
+
+-- the change leaves the sizes of files as they are, and no file comes or goes
+abbrev pub KeepsSizes : Change → Type 0
+KeepsSizes (WriteRange path offset bytes) = ⊤
+KeepsSizes (WriteRecord path number bytes) = ⊤
+KeepsSizes (PinSet set) = ⊤
+KeepsSizes (FileAdd head) = ⊥
+KeepsSizes (FileGone path) = ⊥
+KeepsSizes (FileState path life) = ⊤
+KeepsSizes (FileSize path size) = ⊥

@@ -1,6 +1,7 @@
 -- What is found among the files of a card (ETSI TS 102 221, file referencing).
-use Rattle.std.specs.Prelude.{ℕ, Bool, not, ◌==◌, ◌&&◌, if◌then◌else◌, List, [], ◌∷◌, ◌++◌, find, nat_eq, Option, Some, None, option_and_then}
+use Rattle.std.specs.Prelude.{ℕ, Bool, not, ◌==◌, ◌&&◌, if◌then◌else◌, List, [], ◌∷◌, ◌++◌, find, nat_eq, Option, Some, None, is_some, option_and_then}
 use Rattle.std.specs.List.{starts_with}
+use Rattle.std.specs.Str.{bytes_eq}
 use Rattle.file_rows.specs.Content.{file_at}
 use Rattle.file_rows.specs.FileHead.{is_application}
 use Rattle.file_rows.specs.Path.{is_in}
@@ -30,3 +31,20 @@ child_with_sfi rows directory sfi =
 abbrev pub application_named : List ℕ → List FileRow → Option FileRow
 application_named prefix rows = find
     (λ row. is_application row.head.kind && starts_with nat_eq row.head.name prefix) rows
+
+-- whether a file of this identifier is in the directory, an application too
+abbrev pub is_id_used : List FileRow → List ℕ → ℕ → Bool
+is_id_used rows directory id = is_some (file_at (directory ++ id ∷ []) rows)
+
+-- whether a file in the directory has this SFI
+abbrev pub is_sfi_used : List FileRow → List ℕ → ℕ → Bool
+is_sfi_used rows directory sfi = is_some (child_with_sfi rows directory sfi)
+
+-- the application of exactly this name
+abbrev pub application_of_name : List ℕ → List FileRow → Option FileRow
+application_of_name name rows = find
+    (λ row. is_application row.head.kind && bytes_eq row.head.name name) rows
+
+-- whether an application has exactly this name
+abbrev pub is_name_used : List FileRow → List ℕ → Bool
+is_name_used rows name = is_some (application_of_name name rows)

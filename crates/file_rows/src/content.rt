@@ -15,16 +15,24 @@ pub struct Content {
     pub pins: LongList<PinRow>,
 }
 
-/// How much of the quota the files take: each its body and 32 bytes more.
+/// How much of the quota files take: each its body and 32 bytes more.
+pub fn used_by(rows: &[FileRow]) -> u32
+    requires { use_of rows.now < 2 ^ 32 }
+    ensures { result ≡ use_of rows.now }
+{
+    let mut sum = 0u32;
+    for row in rows {
+        sum += row.body.len() as u32 + 32;
+    }
+    sum
+}
+
+/// How much of the quota the files of a content take.
 pub fn used(content: &Content) -> u32
     requires { use_of content.now.rows < 2 ^ 32 }
     ensures { result ≡ use_of content.now.rows }
 {
-    let mut sum = 0u32;
-    for row in content.rows.as_slice() {
-        sum += row.body.len() as u32 + 32;
-    }
-    sum
+    used_by(content.rows.as_slice())
 }
 
 fn copy_rows(alloc: Global, rows: &[FileRow]) -> Result<Vec<FileRow>, NoMemory>

@@ -1,12 +1,12 @@
-ghost use Rattle.std.specs.Prelude.{◌≡◌, ◌≢◌, ◌↔◌, List, ℕ, [], ◌∷◌, ◌++◌, Contains, IsNone, IsTrue, Some, None};
+ghost use Rattle.std.specs.Prelude.{◌≡◌, ◌≢◌, ◌↔◌, ◌+◌, List, ℕ, [], ◌∷◌, ◌++◌, Contains, IsNone, IsTrue, Some, None};
 ghost use Rattle.file_rows.specs.declared.change.Change.{Change};
 ghost use Rattle.file_rows.specs.declared.content.Content.{Content};
 ghost use Rattle.file_rows.specs.declared.head.FileHead.{FileHead};
 ghost use Rattle.file_rows.specs.declared.pin.PinRow.{PinRow};
 ghost use Rattle.file_rows.specs.declared.row.FileRow.{FileRow};
-ghost use Rattle.file_rows.specs.Change.{Fits, TouchesFile, TouchesPin, changed, new_file};
+ghost use Rattle.file_rows.specs.Change.{Fits, KeepsSizes, NamesWhatIsThere, TouchesFile, TouchesPin, changed, new_file, with_file, with_size};
 ghost use Rattle.file_rows.specs.Conditions.{MeetsConditions};
-ghost use Rattle.file_rows.specs.Content.{AreFiles, IsValid, file_at};
+ghost use Rattle.file_rows.specs.Content.{AreFiles, IsValid, file_at, use_of};
 ghost use Rattle.file_rows.specs.Find.{child_with_sfi};
 ghost use Rattle.file_rows.specs.Path.{IsIn, is_in, master, own_id, parent_of, stands_below};
 
@@ -39,6 +39,20 @@ pub fn changes_are_local()
 pub fn changes_fit_by_kind()
     ensures { (content : Content) (change : Change) → IsValid content
         → Fits content change ↔ MeetsConditions content change }
+{}
+
+/// How much of the quota the files take after a change that has what it names: a new file its size
+/// and 32 bytes more, another size what it has more, and a write, a life cycle status and a PIN
+/// nothing.
+pub fn changes_take_of_the_quota()
+    ensures added { (rows : List FileRow) (head : FileHead)
+        → use_of (rows ++ new_file head ∷ []) ≡ use_of rows + (head.size + 32) }
+    ensures sized { (rows : List FileRow) → AreFiles rows → (path : List ℕ) (row : FileRow)
+        → file_at path rows ≡ Some row → (size : ℕ)
+        → use_of (with_file path (with_size size) rows) + row.head.size ≡ use_of rows + size }
+    ensures kept { (content : Content) (change : Change) → AreFiles content.rows
+        → NamesWhatIsThere content change → KeepsSizes change
+        → use_of (changed content change).rows ≡ use_of content.rows }
 {}
 
 /// The file identifiers of ETSI TS 102 221: `3F00` is the MF's, a file in a directory has the last

@@ -18,10 +18,11 @@ mod row;
 mod valid;
 
 pub use change::{Change, Piece};
-pub use content::{Content, QUOTA, copy_pins, used};
+pub use content::{Content, QUOTA, copy_pins, used, used_by};
 pub use head::{FileHead, Kind, Life, Name, Rule};
 pub use laws::{
-    changes_are_local, changes_fit_by_kind, files_have_identifiers, one_file_has_an_sfi,
+    changes_are_local, changes_fit_by_kind, changes_take_of_the_quota, files_have_identifiers,
+    one_file_has_an_sfi,
 };
 pub use mode::Mode;
 pub use path::{CURRENT_APPLICATION_ID, MASTER_FILE_ID, Path, own_id, parent_of};
