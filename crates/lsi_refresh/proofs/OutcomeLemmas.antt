@@ -1,27 +1,18 @@
-use Rattle.std.proofs.Common.{◌≡◌, ◌≢◌, ◌==◌, List, false, Option, Some, None, refl, sym, ap, ◌∙◌}
+use Rattle.std.proofs.Common.{◌≡◌, ◌≢◌, ◌==◌, Bool, true, false, ◌||◌, if◌then◌else◌, List, refl, sym, ap, ◌∙◌}
 use Rattle.std.proofs.lemmas.Bool.{ne_eqb, true≢false}
+use Rattle.std.specs.Prelude.{◌/◌}
 use Rattle.apdu_codec.specs.declared.answers.Answer.{Answer}
 use Rattle.apdu_codec.specs.declared.status.Sw.{Sw}
-use Rattle.apdu_codec.specs.declared.status.TheConstants.Sw.{OK}
+use Rattle.apdu_codec.specs.declared.status.TheConstants.Sw.{OK, PROACTIVE}
 use Rattle.file_rows.specs.declared.row.FileRow.{FileRow}
+use Rattle.uicc_channels.specs.Accepted.{IsDoneOrRefused, is_accepted}
 use Rattle.uicc_channels.specs.CommandOutcome.{CommandOutcome, refused}
-use Rattle.uicc_channels.specs.CommandRow.{CommandRow, decided, refusal_of, refused_or}
 use Rattle.uicc_channels.specs.Session.{Suits}
 use Rattle.uicc_channels.specs.declared.session.Refresh.{Refresh}
 use Rattle.uicc_channels.specs.declared.session.Refresh.TheVariants.{Announced, Fetched, Quiet}
 use Rattle.uicc_channels.specs.declared.session.Session.{Session}
 use Rattle.lsi_refresh.specs.Announcement.{announced, announcing_in}
 use Rattle.lsi_refresh.specs.RefreshState.{with_refresh}
-
--- what holds of each refusal and of what is done without one holds of what a command comes to
-pub decided-has : (P : CommandOutcome → Type 0) (session : Session) (row : CommandRow) → ((sw : Sw) → refusal_of row ≡ Some sw → P (refused session sw))
-    → (refusal_of row ≡ None → P row.done) → P (decided session row)
-decided-has P session row where_refused where_done = either (refusal_of row) where_refused where_done
-  where
-    either : (refusal : Option Sw) → ((sw : Sw) → refusal ≡ Some sw → P (refused session sw)) → (refusal ≡ None → P row.done)
-        → P (refused_or refusal session row.done)
-    either None where_refused where_done = where_done refl
-    either (Some sw) where_refused where_done = where_refused sw refl
 
 -- a status word other than 9000
 abbrev pub IsOther : Sw → Type 0
@@ -51,3 +42,31 @@ announcing_in-none_waits Quiet answer none = refl
 -- the state of a REFRESH is no part of what suits a card
 pub Suits-with_refresh : (rows : List FileRow) (refresh : Refresh) (session : Session) → Suits session rows → Suits (with_refresh refresh session) rows
 Suits-with_refresh rows refresh session suits = record { places = suits.places; basic = suits.basic; each = suits.each }
+
+-- what is accepted stays accepted with the announcement
+pub accepted-announcing : (refresh : Refresh) (answer : Answer) → is_accepted answer.sw ≡ true → is_accepted (announcing_in refresh answer).sw ≡ true
+accepted-announcing Announced answer accepted = either (answer.sw.0 == 0x9000) accepted
+  where
+    either : (is_ok : Bool) → is_accepted answer.sw ≡ true → is_accepted (if is_ok then record answer { sw = PROACTIVE } else answer).sw ≡ true
+    either true accepted = refl
+    either false accepted = accepted
+accepted-announcing Fetched answer accepted = accepted
+accepted-announcing Quiet answer accepted = accepted
+
+-- a status word that doesn't accept isn't 9000
+other_where_refused : (sw : Sw) → is_accepted sw ≡ false → IsOther sw
+other_where_refused sw refuses = first (sw.0 == 0x9000) refuses
+  where
+    first : (is_ok : Bool) → (is_ok || (sw.0 == 0x910B) || (sw.0 / 256 == 0x61) || (sw.0 == 0x6283) || (sw.0 == 0x6285)) ≡ false → is_ok ≡ false
+    first true e = e
+    first false e = refl
+
+-- what is accepted or changes nothing is so with the announcement
+pub IsDoneOrRefused-announced : (session : Session) (outcome : CommandOutcome) → IsDoneOrRefused session outcome → IsDoneOrRefused session (announced outcome)
+IsDoneOrRefused-announced session outcome done refuses = either (is_accepted outcome.answer.sw) refl
+  where
+    either : (accepted : Bool) → is_accepted outcome.answer.sw ≡ accepted → announced outcome ≡ refused session (announced outcome).answer.sw
+    either true e = absurd (true≢false (sym (accepted-announcing outcome.session.refresh outcome.answer e) ∙ refuses))
+    either false e =
+        let stays : announced outcome ≡ outcome = announced-other outcome (other_where_refused outcome.answer.sw e) in
+        stays ∙ (done e ∙ ap (λ (o : CommandOutcome). refused session o.answer.sw) (sym stays))

@@ -4,16 +4,17 @@ use Rattle.apdu_codec.specs.Command.{Apdu}
 use Rattle.apdu_codec.specs.Ins.{class_fits}
 use Rattle.apdu_codec.specs.declared.status.Sw.{Sw}
 use Rattle.apdu_codec.specs.declared.status.TheConstants.Sw.{OK}
+use Rattle.uicc_channels.proofs.RowLemmas.{decided-has}
 use Rattle.uicc_channels.specs.CommandOutcome.{refused}
 use Rattle.uicc_channels.specs.CommandRow.{CommandRow, decided, refusal_of}
 use Rattle.uicc_channels.specs.Session.{channel_at}
+use Rattle.uicc_channels.specs.Shape.{has_body, has_le_alone}
 use Rattle.uicc_channels.specs.declared.session.Refresh.TheVariants.{Announced, Fetched, Quiet}
 use Rattle.uicc_channels.specs.declared.session.Session.{Session}
 use Rattle.lsi_refresh.proofs.FormLemmas.{RefusesByOther, fetch_refusal-none, fetch_refusal-other, refusal_by-none, refusal_by-other, response_refusal-none, response_refusal-other}
-use Rattle.lsi_refresh.proofs.OutcomeLemmas.{IsOther, announced-other, decided-has, isn't_ok}
+use Rattle.lsi_refresh.proofs.OutcomeLemmas.{IsOther, announced-other, isn't_ok}
 use Rattle.lsi_refresh.specs.Announcement.{announced}
-use Rattle.lsi_refresh.specs.Fetch.{has_le_alone, fetch_refusal, fetch_row}
-use Rattle.lsi_refresh.specs.TerminalCommand.{has_body}
+use Rattle.lsi_refresh.specs.Fetch.{fetch_refusal, fetch_row}
 use Rattle.lsi_refresh.specs.TerminalResponse.{response_refusal, terminal_response_row}
 
 -- a refusal of a row that refuses by other status words than 9000

@@ -1,4 +1,4 @@
-use Rattle.std.specs.Prelude.{ℕ, Bool, ◌==◌, ◌&&◌, length, [], ◌∷◌, Option, is_some}
+use Rattle.std.specs.Prelude.{ℕ, [], ◌∷◌, Option}
 use Rattle.apdu_codec.specs.Command.{Apdu}
 use Rattle.apdu_codec.specs.declared.status.Sw.{Sw}
 use Rattle.apdu_codec.specs.declared.status.TheConstants.Sw.{CONDITIONS_NOT_SATISFIED, OK}
@@ -10,13 +10,10 @@ use Rattle.uicc_channels.specs.CommandOutcome.{answering}
 use Rattle.uicc_channels.specs.CommandRow.{CommandRow}
 use Rattle.uicc_channels.specs.Delivery.{le_refusal}
 use Rattle.uicc_channels.specs.Needs.{refused_unless}
+use Rattle.uicc_channels.specs.Shape.{has_le_alone}
 use Rattle.uicc_channels.specs.declared.session.Refresh.{Refresh}
 use Rattle.uicc_channels.specs.declared.session.Refresh.TheVariants.{Fetched}
 use Rattle.uicc_channels.specs.declared.session.Session.{Session}
-
--- no body, and an Le
-abbrev pub has_le_alone : Apdu → Bool
-has_le_alone c = (length c.body == 0) && is_some c.le
 
 -- why the proactive command isn't given: none waits, or Le is another than its length
 abbrev pub fetch_refusal : Refresh → Option ℕ → Option Sw

@@ -1,6 +1,6 @@
 -- What the commands have in common that a terminal sends about itself and about a proactive
 -- command.
-use Rattle.std.specs.Prelude.{Bool, not, ◌==◌, ◌&&◌, length, Option}
+use Rattle.std.specs.Prelude.{Bool, ◌==◌, ◌&&◌, Option}
 use Rattle.apdu_codec.specs.Answer.{status_alone}
 use Rattle.apdu_codec.specs.Command.{Apdu}
 use Rattle.apdu_codec.specs.declared.status.Sw.{Sw}
@@ -9,6 +9,7 @@ use Rattle.plain_lists.specs.FirstOf.{first_of}
 use Rattle.uicc_channels.specs.CommandOutcome.{answering}
 use Rattle.uicc_channels.specs.CommandRow.{CommandRow}
 use Rattle.uicc_channels.specs.Needs.{Needs, needs_of, refusals}
+use Rattle.uicc_channels.specs.Shape.{has_body}
 use Rattle.uicc_channels.specs.declared.session.Session.{Session}
 
 -- P1 and P2 are 00, and the body and Le are as the instruction wants
@@ -22,9 +23,6 @@ needs_of_form session c lengths =
 -- why a command is refused by its form: its channel, its class, P1 and P2, and then its body and Le
 abbrev pub form_refusal : Session → Apdu → Bool → Option Sw
 form_refusal session c lengths = first_of (refusals (needs_of_form session c lengths))
-
-abbrev pub has_body : Apdu → Bool
-has_body c = not (length c.body == 0)
 
 -- a body is taken, and nothing comes of it
 abbrev pub taken_row : Session → Apdu → CommandRow

@@ -4,10 +4,11 @@ use Rattle.apdu_codec.specs.Command.{Apdu}
 use Rattle.apdu_codec.specs.declared.status.Sw.{Sw}
 use Rattle.apdu_codec.specs.declared.status.TheConstants.Sw.{CONDITIONS_NOT_SATISFIED, OK}
 use Rattle.lsi_refresh.specs.RefreshState.{is_fetched, with_refresh}
-use Rattle.lsi_refresh.specs.TerminalCommand.{has_body, needs_of_form}
+use Rattle.lsi_refresh.specs.TerminalCommand.{needs_of_form}
 use Rattle.uicc_channels.specs.CommandOutcome.{answering}
 use Rattle.uicc_channels.specs.CommandRow.{CommandRow}
 use Rattle.uicc_channels.specs.Needs.{refused_unless}
+use Rattle.uicc_channels.specs.Shape.{has_body}
 use Rattle.uicc_channels.specs.declared.session.Refresh.{Refresh}
 use Rattle.uicc_channels.specs.declared.session.Refresh.TheVariants.{Quiet}
 use Rattle.uicc_channels.specs.declared.session.Session.{Session}

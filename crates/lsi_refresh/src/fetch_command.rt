@@ -1,13 +1,13 @@
 ghost use Rattle.std.specs.Prelude.{◌≡◌, None, Some, MatchResult};
 ghost use Rattle.apdu_codec.specs.Command.{apdu_of};
-ghost use Rattle.lsi_refresh.specs.Fetch.{fetch_refusal, fetch_row, has_le_alone};
+ghost use Rattle.lsi_refresh.specs.Fetch.{fetch_refusal, fetch_row};
 ghost use Rattle.lsi_refresh.specs.RefreshCommand.{refresh_command};
 ghost use Rattle.uicc_channels.specs.CommandOutcome.{outcome_of};
 ghost use Rattle.uicc_channels.specs.CommandRow.{Follows, decided};
 
 use crate::form::require_form;
 use apdu_codec::{Command, Sw};
-use uicc_channels::{Decided, Refresh, Session, conclude, require, require_le};
+use uicc_channels::{Decided, Refresh, Session, conclude, has_le_alone, require, require_le};
 
 /// The proactive command REFRESH that a card gives (ETSI TS 102 223): a reset of the UICC, from the
 /// UICC to the terminal.
@@ -27,12 +27,6 @@ pub fn fetch(session: &Session, command: &Command, into: &mut Decided)
 {
     let outcome = try_fetch(session, command, into);
     conclude(into, outcome);
-}
-
-fn has_le_alone(command: &Command) -> bool
-    ensures { result ≡ has_le_alone (apdu_of command.now) }
-{
-    command.body.is_empty() && command.le.is_some()
 }
 
 // Refuses a FETCH where no REFRESH waits, or whose Le isn't that of the command.

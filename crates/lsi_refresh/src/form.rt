@@ -1,22 +1,16 @@
 ghost use Rattle.std.specs.Prelude.{◌≡◌, None, Some, MatchResult, is_some};
 ghost use Rattle.apdu_codec.specs.Command.{apdu_of};
-ghost use Rattle.lsi_refresh.specs.TerminalCommand.{form_refusal, has_body};
+ghost use Rattle.lsi_refresh.specs.TerminalCommand.{form_refusal};
 ghost use Rattle.uicc_channels.specs.Session.{channel_at};
 
-use apdu_codec::{Command, Sw, class_fits};
-use uicc_channels::{Session, require};
+use apdu_codec::{Command, Sw};
+use uicc_channels::{Session, require, require_shape};
 
 // Whether that channel is open.
 fn is_open(session: &Session, channel: u8) -> bool
     ensures { result ≡ is_some (channel_at session.now channel) }
 {
     session.channel_at(channel).is_some()
-}
-
-pub(crate) fn has_body(command: &Command) -> bool
-    ensures { result ≡ has_body (apdu_of command.now) }
-{
-    !command.body.is_empty()
 }
 
 // Refuses a command whose channel isn't open, whose class isn't its instruction's, whose P1 and P2
@@ -27,7 +21,5 @@ pub(crate) fn require_form(session: &Session, command: &Command, lengths: bool) 
         (λ sw. form_refusal session.now (apdu_of command.now) lengths ≡ Some sw) }
 {
     require(is_open(session, command.channel), Sw::CHANNEL_NOT_SUPPORTED)?;
-    require(class_fits(command.ins, command.class), Sw::WRONG_CLASS)?;
-    require(command.p1 == 0x00 && command.p2 == 0x00, Sw::WRONG_P1_P2)?;
-    require(lengths, Sw::WRONG_LENGTH)
+    require_shape(command, command.p1 == 0x00 && command.p2 == 0x00, lengths)
 }

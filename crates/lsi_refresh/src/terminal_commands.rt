@@ -7,9 +7,9 @@ ghost use Rattle.lsi_refresh.specs.TerminalResponse.{response_refusal, terminal_
 ghost use Rattle.uicc_channels.specs.CommandOutcome.{outcome_of};
 ghost use Rattle.uicc_channels.specs.CommandRow.{Follows, decided};
 
-use crate::form::{has_body, require_form};
+use crate::form::require_form;
 use apdu_codec::{Command, Sw};
-use uicc_channels::{Decided, Refresh, Session, conclude, require};
+use uicc_channels::{Decided, Refresh, Session, conclude, has_body, require};
 
 /// TERMINAL PROFILE (ETSI TS 102 221): what the terminal can do, which isn't looked at.
 ///

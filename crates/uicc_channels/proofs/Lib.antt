@@ -1,4 +1,12 @@
+pub mod AmongLemmas
+pub mod CarryLemmas
+pub mod ChannelLemmas
+pub mod DirectoryLemmas
+pub mod ManageLemmas
 pub mod NeedsLemmas
+pub mod ResponseLemmas
 pub mod RowLemmas
 pub mod SessionLemmas
 pub mod VerifiedLemmas
+pub mod AcceptedLemmas
+pub mod RefusedLemmas

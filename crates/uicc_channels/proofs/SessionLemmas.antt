@@ -1,4 +1,4 @@
-use Rattle.std.proofs.Common.{◌≡◌, ◌≢◌, ℕ, zero, suc, ◌-◌, ◌<◌, Bool, inl, inr, List, [], ◌∷◌, length, replicate, get_or, set, refl, sym, ◌∙◌, ap, arith, Option, Some, None, IfSome, IsSome, IsSomeAnd, IsTrue, option_map, subst, length-set}
+use Rattle.std.proofs.Common.{◌≡◌, ◌≢◌, ℕ, zero, suc, ◌-◌, ◌<◌, ◌≤◌, Bool, inl, inr, List, [], ◌∷◌, length, replicate, get_or, set, refl, sym, ◌∙◌, ap, arith, Option, Some, None, IfSome, IsSome, IsSomeAnd, IsTrue, option_map, subst, length-set}
 use Rattle.std.proofs.lemmas.Bool.{cases_eq, cases_lt, true≢false}
 use Rattle.std.proofs.lemmas.List.{get_or-set_other, get_or-set_same, get_or_past}
 use Rattle.file_rows.specs.Content.{AreFiles, IsValid, file_at}
@@ -10,7 +10,7 @@ use Rattle.file_rows.specs.declared.head.Kind.TheVariants.{Master}
 use Rattle.file_rows.specs.declared.row.FileRow.{FileRow}
 use Rattle.uicc_channels.specs.Chan.{IsDirectoryIn, StandsAmong, at_isdr, at_master, holding}
 use Rattle.uicc_channels.specs.Delivery.{waiting}
-use Rattle.uicc_channels.specs.Session.{Suits, channel_at, fresh_session, reset_session, with_channel}
+use Rattle.uicc_channels.specs.Session.{IsOpen, Suits, channel_at, fresh_session, reset_session, with_channel}
 use Rattle.uicc_channels.specs.declared.chan.Chan.{Chan}
 use Rattle.uicc_channels.specs.declared.session.Session.{Session}
 use Rattle.uicc_channels.specs.declared.session.TheConstants.{CHANNELS}
@@ -30,6 +30,28 @@ within session number chan e =
 -- a channel is what was put into its place
 pub channel_at-with_channel_same : (session : Session) (number : ℕ) (place : Option Chan) → number < length session.channels → channel_at (with_channel session number place) number ≡ place
 channel_at-with_channel_same session number place below = get_or-set_same session.channels number place None below
+
+-- no channel is past the places
+past_places : (session : Session) (number : ℕ) (place : Option Chan) → length session.channels ≤ number → channel_at (with_channel session number place) number ≡ None
+past_places session number place past =
+    get_or_past (set session.channels number place) number None (rw (length-set session.channels number place) past)
+
+-- a channel that is open in a place is the one that was put there
+pub channel_at-with_channel_open : (session : Session) (number : ℕ) (chan : Chan) → IsOpen (with_channel session number (Some chan)) number
+    → channel_at (with_channel session number (Some chan)) number ≡ Some chan
+channel_at-with_channel_open session number chan is_open =
+    elim (cases_lt number (length session.channels)) [
+      | inl below ↦ channel_at-with_channel_same session number (Some chan) below
+      | inr past ↦ let none : channel_at (with_channel session number (Some chan)) number ≡ None = past_places session number (Some chan) past in absurd (true≢false (rw none at (sym is_open)))
+    ]
+
+-- a channel that was closed is closed
+pub channel_at-with_channel_closed : (session : Session) (number : ℕ) → channel_at (with_channel session number None) number ≡ None
+channel_at-with_channel_closed session number =
+    elim (cases_lt number (length session.channels)) [
+      | inl below ↦ channel_at-with_channel_same session number None below
+      | inr past ↦ past_places session number None past
+    ]
 
 -- with no Le the body waits on the channel
 pub channel_at-waiting_same : (le : Option ℕ) (session : Session) (number : ℕ) (body : List ℕ) (chan : Chan) → le ≡ None → channel_at session number ≡ Some chan → channel_at (waiting le session number body) number ≡ Some (holding body chan)
@@ -117,7 +139,7 @@ stands_at : (session : Session) (rows : List FileRow) (number : ℕ) (place : Op
 stands_at session rows number place stands =
     elim (cases_lt number (length session.channels)) [
       | inl within ↦ rw (get_or-set_same session.channels number place None within) stands
-      | inr past ↦ rw (get_or_past (set session.channels number place) number None (rw (length-set session.channels number place) past)) tt
+      | inr past ↦ rw (past_places session number place past) tt
     ]
 
 -- a session goes on to suit with a channel opened, moved or closed

@@ -1,10 +1,15 @@
+pub mod Accepted
 pub mod CarriesOut
 pub mod Chan
+pub mod ChannelLaws
 pub mod CommandOutcome
 pub mod CommandRow
 pub mod Delivery
+pub mod GetResponse
 pub mod Life
+pub mod ManageChannel
 pub mod Needs
 pub mod Session
 pub mod SessionChange
+pub mod Shape
 pub mod Verified

@@ -81,6 +81,17 @@ impl Chan {
         }
     }
 
+    // A channel with the application and the directory of this one, with no EF and nothing waiting.
+    pub(crate) fn in_directory(&self) -> Self
+        ensures { result ≡ record at_master { app = self.now.app; dir = self.now.dir } }
+    {
+        Chan {
+            app: copy_path(&self.app),
+            dir: self.dir.copy(),
+            ..Chan::at_master()
+        }
+    }
+
     // It is a copy of that channel afterwards. It moves only the bytes that wait there.
     pub(crate) fn assign(&mut self, other: &Chan)
         ensures { self.new ≡ other.now }

@@ -67,12 +67,19 @@ pub fn deliver(session: &Session, command: &Command, body: &[u8], into: &mut Dec
 }
 
 // With no Le the body waits on the command's channel.
-fn leave_waiting(session: &Session, command: &Command, body: &[u8], change: &mut SessionChange)
+pub(crate) fn leave_waiting(
+    session: &Session,
+    command: &Command,
+    body: &[u8],
+    change: &mut SessionChange,
+)
     requires open { IsOpen session.now command.now.channel }
     requires most { length body.now ≤ 256 }
     requires none { change.old ≡ no_change }
-    ensures { session_after session.now change.new
+    ensures value { session_after session.now change.new
         ≡ waiting command.now.le session.now command.now.channel body.now }
+    ensures other { change.new.other ≡ None }
+    ensures end { change.new.new_end ≡ None }
 {
     if command.le.is_none() {
         let chan = session.open_channel(command.channel);

@@ -27,7 +27,7 @@ pub struct NewEnd {
 pub struct SessionChange {
     /// What stands in the place of the command's own channel.
     pub own: Option<ChannelChange>,
-    /// What stands in the place of another channel, which opens or closes.
+    /// What stands in the place of a channel that opens or closes.
     pub other: Option<ChannelChange>,
     /// The PINs that are verified, as `Session` has them.
     pub verified: Option<u32>,

@@ -1,6 +1,8 @@
 //! What no clause says: the status words of a delivery as a modem sees them, and each call once.
 ghost use Rattle.std.specs.Prelude.{◌≡◌, ◌≤◌, length};
 
+mod channels;
+
 use super::*;
 use apdu_codec::{Answer, Class, Command, Sw, ins};
 use file_rows::{Life, Mode, Path};
@@ -166,6 +168,10 @@ fn a_fresh_session_has_channel_0_and_the_kept_one(rt: HostRuntime) {
 fn a_refused_command_changes_nothing(rt: HostRuntime) {
     assert!(rt; require(true, Sw::WRONG_CLASS).is_ok());
     assert!(rt; require(false, Sw::WRONG_CLASS) == Err(Sw::WRONG_CLASS));
+    let status = status_command(Some(2));
+    assert!(rt; has_le_alone(&status) && !has_body(&status));
+    assert!(rt; require_shape(&status, true, true).is_ok());
+    assert!(rt; require_shape(&status, false, false) == Err(Sw(0x6A86)));
     assert!(rt; require_active(Life::Active).is_ok());
     assert!(rt; require_active(Life::Deactivated) == Err(Sw(0x6984)));
     assert!(rt; require_active(Life::Terminated) == Err(Sw(0x6985)));

@@ -1,5 +1,5 @@
 use Rattle.std.proofs.Common.{refl}
-use Rattle.lsi_refresh.proofs.OutcomeLemmas.{decided-has}
+use Rattle.uicc_channels.proofs.RowLemmas.{decided-has}
 use Rattle.lsi_refresh.specs.RefreshState.{ChangesRefreshAlone}
 use Rattle.lsi_refresh.specs.Fetch.{fetch_row}
 use Rattle.lsi_refresh.specs.TerminalCapability.{terminal_capability_row}
