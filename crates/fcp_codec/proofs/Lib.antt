@@ -4,3 +4,5 @@ pub mod Listing
 pub mod Joining
 pub mod Again
 pub mod KeyLemmas
+pub mod CreationLemmas
+pub mod CreationFits

@@ -5,3 +5,4 @@ pub mod Reading
 pub mod State
 pub mod PinStatus
 pub mod Writing
+pub mod Creation

@@ -1,5 +1,6 @@
 //! File control parameters as they were read.
 ghost use Rattle.std.specs.Prelude.{◌≡◌};
+ghost use Rattle.fcp_codec.specs.Creation.{is_directory, sfi_in_id, sfi_meant};
 
 use crate::values;
 use file_rows::{Life, Path, Rule};
@@ -39,6 +40,25 @@ pub struct Fcp {
     pub rule: Option<RuleRef>,
 }
 
+// The SFI in the low five bits of an identifier, or 0 where they are none.
+fn sfi_in_id(id: u16) -> u8
+    ensures { result ≡ sfi_in_id id }
+{
+    match (id % 32) as u8 {
+        31 => 0,
+        low => low,
+    }
+}
+
+impl FileForm {
+    /// Whether the file is a directory or an application.
+    pub fn is_directory(self) -> bool
+        ensures { result ≡ is_directory self }
+    {
+        matches!(self, FileForm::Directory)
+    }
+}
+
 impl Fcp {
     ghost use Rattle.fcp_codec.specs.FileForm.{form_of};
 
@@ -47,6 +67,17 @@ impl Fcp {
         ensures { result ≡ form_of self.now.descriptor }
     {
         values::form_of(self.descriptor.as_slice())
+    }
+
+    /// The short file identifier that is meant for a new EF: the one given, else the five low bits
+    /// of the identifier where they are 1 to 30, else 0 for none.
+    pub fn sfi_meant(&self) -> u8
+        ensures { result ≡ sfi_meant self.now }
+    {
+        match self.sfi {
+            Some(sfi) => sfi,
+            None => sfi_in_id(self.id.unwrap_or(0)),
+        }
     }
 }
 

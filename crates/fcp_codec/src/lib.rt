@@ -2,6 +2,7 @@
 //! an answer. Nothing here takes memory.
 #![tactic(auto)]
 
+mod creation;
 mod fault;
 mod fcp;
 mod laws;
@@ -11,9 +12,10 @@ mod tags;
 mod values;
 mod write;
 
+pub use creation::{CreationFault, InUse, new_head};
 pub use fault::FcpFault;
 pub use fcp::{Fcp, FileForm, RuleRef};
-pub use laws::{pins_are_listed_by_key, written_is_read};
+pub use laws::{created_files_fit, pins_are_listed_by_key, written_is_read};
 pub use read::read_fcp;
 pub use write::put_fcp;
 

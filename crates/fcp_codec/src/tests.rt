@@ -158,3 +158,54 @@ fn takes_other_spellings(rt: HostRuntime) -> Result<(), Fail> {
     );
     Ok(())
 }
+
+const FREE: InUse = InUse {
+    id: false,
+    sfi: false,
+    name: false,
+    bytes: 32,
+};
+
+// Ten bytes of two records, with identifier 6F3A and a rule in the EF ARR of its place.
+const RECORDS: &[u8] = b"\x82\x04\x42\x21\x00\x05\x83\x02\x6F\x3A\x80\x01\x0A\x8B\x01\x03";
+
+#[test]
+fn makes_the_head_of_a_new_file(rt: HostRuntime) -> Result<(), Fail> {
+    let directory = Path::from_slice(&[0x7F10]);
+    let head = FileHead {
+        path: Path::from_slice(&[0x7F10, 0x6F3A]),
+        kind: Kind::Linear,
+        life: Life::Active,
+        sfi: 0x1A,
+        name: Name::new(),
+        rule: Some(Rule {
+            file: 0x6F06,
+            row: 3,
+        }),
+        record_len: 5,
+        size: 10,
+    };
+    let fcp = read_fcp(RECORDS)?;
+    assert!(rt; new_head(&directory, &fcp, &FREE) == Ok(head));
+    Ok(())
+}
+
+#[test]
+fn refuses_a_new_file(rt: HostRuntime) -> Result<(), Fail> {
+    let directory = Path::from_slice(&[0x7F10]);
+    let fcp = read_fcp(RECORDS)?;
+    let mut used = FREE;
+    used.bytes = 65_495;
+    let full = new_head(&directory, &fcp, &used);
+    assert!(rt; full == Err(CreationFault::QuotaExceeded));
+    used.name = true;
+    let named = new_head(&directory, &fcp, &used);
+    assert!(rt; named == Err(CreationFault::NameInUse));
+    used.id = true;
+    let there = new_head(&directory, &fcp, &used);
+    assert!(rt; there == Err(CreationFault::IdInUse));
+    let unnamed = read_fcp(b"\x82\x02\x78\x21")?;
+    let lacking = new_head(&directory, &unnamed, &used);
+    assert!(rt; lacking == Err(CreationFault::BadParameters));
+    Ok(())
+}

@@ -12,3 +12,5 @@ pub mod TreeLemmas
 pub mod GivesLemmas
 pub mod TestLemmas
 pub mod NameLemmas
+pub mod OutsideLemmas
+pub mod UsedLemmas

@@ -2,9 +2,10 @@
 use Rattle.std.proofs.Common.{◌≡◌, ℕ, Bool, true, ◌&&◌, List, [], ◌∷◌, map, find, nat_eq, Contains, refl, sym, ◌∙◌, ap, subst, ⊎_elim}
 use Rattle.std.proofs.lemmas.Bool.{true≢false}
 use Rattle.std.specs.List.{AllByRecursion, starts_with}
+use Rattle.std.specs.Str.{bytes_eq}
 use Rattle.file_rows.specs.Content.{heads_of}
 use Rattle.file_rows.specs.FileHead.{HasForm, IsFile, is_application}
-use Rattle.file_rows.specs.Find.{application_named}
+use Rattle.file_rows.specs.Find.{application_named, application_of_name}
 use Rattle.file_rows.specs.Path.{IsIn, is_in, master}
 use Rattle.file_rows.specs.declared.head.FileHead.{FileHead}
 use Rattle.file_rows.specs.declared.head.Kind.{Kind}
@@ -39,17 +40,39 @@ is_named_head prefix head = is_application head.kind && starts_with nat_eq head.
 abbrev pub is_named : List ℕ → FileRow → Bool
 is_named prefix row = is_named_head prefix row.head
 
--- the first application of the MF's children is that of all files
-pub named_in_master : (tree : Files) (children : List (List ℕ)) → IsTree tree children → AreRows (rows_of tree) → (prefix : List ℕ) (root : ℕ)
+abbrev pub has_name_head : List ℕ → FileHead → Bool
+has_name_head name head = is_application head.kind && bytes_eq head.name name
+
+abbrev pub has_name : List ℕ → FileRow → Bool
+has_name name row = has_name_head name row.head
+
+-- what only applications are is found among the MF's children as among all files
+pub found_in_master : (tree : Files) (children : List (List ℕ)) → IsTree tree children → AreRows (rows_of tree)
+    → (test : FileHead → Bool) → ((head : FileHead) → test head ≡ true → is_application head.kind ≡ true) → (root : ℕ)
     → IsLive tree root → path_of tree root ≡ master → (items : List ℕ) → items ≡ children_at children root
-    → find (is_named prefix) (map (file_of tree) items) ≡ application_named prefix (rows_of tree)
-named_in_master tree children is either prefix root live at items listed =
-    ap (λ (ns : List ℕ). find (is_named prefix) (map (file_of tree) ns)) (listed ∙ is.child_list root live ∙ ap (children_in tree) at)
-    ∙ find-filter (file_of tree) (is_named prefix) (λ node. is_in master (path_of tree node)) tree.nodes
-    (λ node there named.
-    let both = both_hold (is_application (file_of tree node).head.kind) (starts_with nat_eq (file_of tree node).head.name prefix) named in
+    → find (λ row. test row.head) (map (file_of tree) items) ≡ find (λ row. test row.head) (rows_of tree)
+found_in_master tree children is either test only root live at items listed =
+    ap (λ (ns : List ℕ). find (λ row. test row.head) (map (file_of tree) ns)) (listed ∙ is.child_list root live ∙ ap (children_in tree) at)
+    ∙ find-filter (file_of tree) (λ row. test row.head) (λ node. is_in master (path_of tree node)) tree.nodes
+    (λ node there passes.
     let file : IsFile (file_of tree node).head = ⊎_elim
     (λ files. file_at_node (file_of tree) tree.nodes node files.each there)
     (λ none. absurd (nothing_there (file_of tree) tree.nodes node none there))
     either in
-    (is_in-is master (path_of tree node)).1 (application_inside (file_of tree node).head.kind (file_of tree node).head both.0 file.form))
+    (is_in-is master (path_of tree node)).1 (application_inside (file_of tree node).head.kind (file_of tree node).head (only (file_of tree node).head passes) file.form))
+
+-- the first application of the MF's children whose name begins so is that of all files
+pub named_in_master : (tree : Files) (children : List (List ℕ)) → IsTree tree children → AreRows (rows_of tree) → (prefix : List ℕ) (root : ℕ)
+    → IsLive tree root → path_of tree root ≡ master → (items : List ℕ) → items ≡ children_at children root
+    → find (is_named prefix) (map (file_of tree) items) ≡ application_named prefix (rows_of tree)
+named_in_master tree children is either prefix root live at items listed =
+    found_in_master tree children is either (is_named_head prefix) (λ head passes. (both_hold (is_application head.kind) (starts_with nat_eq head.name prefix) passes).0)
+    root live at items listed
+
+-- and so is the one of exactly this name
+pub name_in_master : (tree : Files) (children : List (List ℕ)) → IsTree tree children → AreRows (rows_of tree) → (name : List ℕ) (root : ℕ)
+    → IsLive tree root → path_of tree root ≡ master → (items : List ℕ) → items ≡ children_at children root
+    → find (has_name name) (map (file_of tree) items) ≡ application_of_name name (rows_of tree)
+name_in_master tree children is either name root live at items listed =
+    found_in_master tree children is either (has_name_head name) (λ head passes. (both_hold (is_application head.kind) (bytes_eq head.name name) passes).0)
+    root live at items listed

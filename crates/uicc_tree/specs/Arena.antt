@@ -1,4 +1,4 @@
-use Rattle.std.specs.Prelude.{ℕ, Bool, true, false, not, ◌==◌, filter, nat_lt, ◌+◌, ◌≡◌, ◌≢◌, ◌⊎◌, ◌<◌, ◌^◌, List, ◌∷◌, [], ◌++◌, map, length, vec_capacity, IsTrue, All, slice_index_or, slice_get, slice_set, Option, Some, None}
+use Rattle.std.specs.Prelude.{ℕ, Bool, true, false, not, ◌==◌, filter, nat_lt, if◌then◌else◌, ◌+◌, ◌≡◌, ◌≢◌, ◌⊎◌, ◌<◌, ◌^◌, List, ◌∷◌, [], ◌++◌, map, length, vec_capacity, IsTrue, All, slice_index_or, slice_get, slice_set, Option, Some, None}
 use Rattle.file_rows.specs.Path.{IsIn, is_in, master, stands_below}
 use Rattle.file_rows.specs.declared.row.FileRow.{FileRow}
 use Rattle.uicc_tree.specs.Files.{Files, IsLive, file_of, path_of}
@@ -152,3 +152,7 @@ pub record SameNodes (old new : Arena) : Type 0 where
   pub children : children_of new ≡ children_of old
   pub marks : marks_of new ≡ marks_of old
   pub few : length new.slots.items ≡ length old.slots.items
+
+-- how much of the quota a file takes that doesn't stand below the one on top
+abbrev pub use_outside : List ℕ → FileRow → ℕ
+use_outside top row = if stands_below top row.head.path then 0 else length row.body + 32

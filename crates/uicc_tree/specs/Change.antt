@@ -1,10 +1,11 @@
 use Rattle.std.specs.Prelude.{ℕ, false, ◌≡◌, ◌⊎◌, ◌≤◌, List, [], length, replicate, slice_index, Option, ⊤}
 use Rattle.file_rows.specs.Change.{Fits, changed, with_file}
-use Rattle.file_rows.specs.Content.{AreFiles}
+use Rattle.file_rows.specs.Content.{AreFiles, use_of}
 use Rattle.file_rows.specs.FileHead.{IsFile}
 use Rattle.file_rows.specs.Path.{stands_below}
 use Rattle.file_rows.specs.declared.change.Change.{Change}
 use Rattle.file_rows.specs.declared.change.Change.TheVariants.{WriteRange, WriteRecord, PinSet, FileAdd, FileGone, FileState, FileSize}
+use Rattle.file_rows.specs.declared.content.TheConstants.{QUOTA}
 use Rattle.file_rows.specs.declared.pin.PinRow.{PinRow}
 use Rattle.file_rows.specs.declared.row.FileRow.{FileRow}
 use Rattle.uicc_tree.specs.Arena.{HasPlace, IsArena, StandsIn, body_room_of, files_of}
@@ -60,6 +61,12 @@ pub record IsKept (held : Arena) (spare : List ℕ) (room : Room) : Type 0 where
   pub arena : IsArena held
   pub rows : AreRows (rows_of (files_of held))
   pub ready : IsReady held spare room
+
+-- what a tree keeps that counts how much of the quota its files take
+pub record IsCounted (held : Arena) (spare : List ℕ) (room : Room) (sum : ℕ) : Type 0 where
+  pub kept : IsKept held spare room
+  pub used : sum ≡ use_of (rows_of (files_of held))
+  pub quota : use_of (rows_of (files_of held)) ≤ QUOTA
 
 -- one file is changed, and each keeps its node and its path
 pub record ChangesFile (old new : Arena) (path : List ℕ) (change : FileRow → FileRow) : Type 0 where

@@ -1,3 +1,4 @@
+pub mod Access
 pub mod Arena
 pub mod Change
 pub mod Files

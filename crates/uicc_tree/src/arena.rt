@@ -1,9 +1,10 @@
 ghost use Rattle.std.specs.Prelude.{◌≡◌, ◌≢◌, ℕ, ◌<◌, List, [], ◌∷◌, ◌++◌, length, Contains, IfSome, IfNone, IsTrue, OnOk, ◌↔◌, ◌&&◌, ◌+◌, ◌^◌, ◌⊎◌, false, nat_eq, Some, None, vec_capacity, slice_get, slice_set, slice_index_or};
 ghost use Rattle.uicc_tree.specs.Arena.{files_of, children_of, children_at, child_room_of, marks_of, CanStand, HasDirectory, HasNode, HasPlace, IsArena, IsFree, StandsIn, Stores};
 ghost use Rattle.std.specs.List.{starts_with};
+ghost use Rattle.std.specs.Str.{bytes_eq};
 ghost use Rattle.file_rows.specs.Content.{file_at};
 ghost use Rattle.file_rows.specs.FileHead.{is_application};
-ghost use Rattle.file_rows.specs.Find.{application_named};
+ghost use Rattle.file_rows.specs.Find.{application_named, is_name_used};
 ghost use Rattle.file_rows.specs.Path.{IsIn, master};
 ghost use Rattle.uicc_tree.specs.Change.{AreRows};
 ghost use Rattle.uicc_tree.specs.Files.{Gives, IsLive, IsNodeOf, HasSfi, file_of, path_of, rows_of};
@@ -48,6 +49,13 @@ fn is_named(head: &FileHead, prefix: &[u8]) -> bool
     ensures { result ≡ is_application head.now.kind && starts_with nat_eq head.now.name prefix.now }
 {
     head.kind.is_application() && head.name.as_slice().starts_with(prefix)
+}
+
+// Whether this is an application of exactly this name.
+fn has_name(head: &FileHead, name: &[u8]) -> bool
+    ensures { result ≡ is_application head.now.kind && bytes_eq head.now.name name.now }
+{
+    head.kind.is_application() && head.name.as_slice() == name
 }
 
 impl Arena {
@@ -167,6 +175,23 @@ impl Arena {
             }
         }
         None
+    }
+
+    // Whether an application has exactly this name. Applications stand in the MF.
+    pub fn has_name(&self, name: &[u8]) -> bool
+        requires arena { IsArena self.now }
+        requires rows { AreRows (rows_of (files_of self.now)) }
+        ensures { result ≡ is_name_used (rows_of (files_of self.now)) name.now }
+    {
+        let Some(master) = self.master() else {
+            return false;
+        };
+        for child in self.children(master) {
+            if has_name(self.head(*child), name) {
+                return true;
+            }
+        }
+        false
     }
 
     // The node of the file in which a file of this path stands.

@@ -1,11 +1,13 @@
 // A file that goes, with all files below it.
-ghost use Rattle.std.specs.Prelude.{◌≡◌, ◌≢◌, ℕ, ◌==◌, ◌<◌, true, false, not, filter, length, map, slice_get, slice_index_or};
+ghost use Rattle.std.specs.Prelude.{◌≡◌, ◌≢◌, ℕ, ◌==◌, ◌<◌, ◌≤◌, ◌^◌, true, false, not, filter, length, map, slice_get, slice_index_or};
 ghost use Rattle.std.specs.List.{starts_with};
+ghost use Rattle.file_rows.specs.Content.{use_of};
 ghost use Rattle.file_rows.specs.Path.{stands_below};
-ghost use Rattle.uicc_tree.specs.Arena.{files_of, mark_at, ArePruned, IsArena, IsPruned};
+ghost use Rattle.uicc_tree.specs.Arena.{files_of, mark_at, use_outside, ArePruned, IsArena, IsPruned};
 ghost use Rattle.uicc_tree.specs.Files.{file_of, path_of, rows_of, IsLive};
 
 use crate::arena::{Arena, Slot};
+use file_rows::QUOTA;
 use smallvec::SmallVec;
 
 // Whether a path begins with that of a directory.
@@ -63,6 +65,32 @@ impl Arena {
         for node in 0..self.slots.len() {
             prune(&mut self.slots[node], top, gone);
         }
+    }
+
+    // How much of the quota a file takes that doesn't stand below this one.
+    fn use_outside(&self, node: u32, top: &[u16]) -> u32
+        requires within { node < length self.now.slots.items }
+        requires short { length (file_of (files_of self.now) node).body < 2 ^ 31 }
+        ensures { result ≡ use_outside top.now (file_of (files_of self.now) node) }
+    {
+        if is_below(self.head(node).path.as_slice(), top) {
+            return 0;
+        }
+        self.bytes(node).len() as u32 + 32
+    }
+
+    // How much of the quota the files take that don't stand below this one.
+    pub fn used_outside(&self, top: &[u16]) -> u32
+        requires arena { IsArena self.now }
+        requires quota { use_of (rows_of (files_of self.now)) ≤ QUOTA }
+        ensures { result ≡ use_of (filter
+            (λ row. not (stands_below top.now row.head.path)) (rows_of (files_of self.now))) }
+    {
+        let mut sum = 0;
+        for node in &self.order {
+            sum += self.use_outside(*node, top);
+        }
+        sum
     }
 
     // Takes away a file, and all files below it.

@@ -51,6 +51,18 @@ fn files_are_looked_up(rt: HostRuntime) -> Result<(), Fail> {
 }
 
 #[test]
+fn what_is_in_use_is_told(rt: HostRuntime) -> Result<(), Fail> {
+    let (_, tree) = made(&rt, rt.alloc(), &FILES)?;
+    let mf = tree.find(&[]).ok_or("an MF")?;
+    assert!(rt; tree.has_id(mf, 0x2FE2) && tree.has_id(mf, 0x7FD0));
+    assert!(rt; !tree.has_id(mf, 0x2FE3));
+    assert!(rt; tree.has_name(&[0xA0, 0, 0, 0, 0x87]));
+    assert!(rt; !tree.has_name(&[0xA0, 0, 0, 0]), "a prefix of a name");
+    assert_eq!(rt; tree.used(), 99);
+    Ok(())
+}
+
+#[test]
 fn a_tree_begins_without_files(rt: HostRuntime) {
     let tree = Tree::new(rt.alloc());
     assert_eq!(rt; tree.find(&[]), None);

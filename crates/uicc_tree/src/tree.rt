@@ -1,6 +1,7 @@
-ghost use Rattle.std.specs.Prelude.{◌≡◌, ℕ, [], List, Option, IsSome, OnOk, IfOk, ◌⊎◌};
-ghost use Rattle.file_rows.specs.Content.{AreFiles, file_at};
-ghost use Rattle.file_rows.specs.Find.{application_named, child, child_with_sfi, file_of_path};
+ghost use Rattle.std.specs.Prelude.{◌≡◌, ◌≤◌, ℕ, [], List, Option, IsSome, OnOk, IfOk, ◌⊎◌};
+ghost use Rattle.file_rows.specs.Change.{with_file, with_size};
+ghost use Rattle.file_rows.specs.Content.{AreFiles, file_at, use_of};
+ghost use Rattle.file_rows.specs.Find.{application_named, child, child_with_sfi, file_of_path, is_id_used, is_name_used};
 ghost use Rattle.file_rows.specs.Path.{parent_of};
 ghost use Rattle.uicc_tree.specs.Arena.{HasDirectory, StandsIn};
 ghost use Rattle.uicc_tree.specs.Change.{FitsFiles, HasRoom, Outlives, rows_after};
@@ -8,7 +9,7 @@ ghost use Rattle.uicc_tree.specs.Files.{Gives, IsLive, file_of, path_of, rows_of
 
 use crate::arena::Arena;
 use crate::room::Room;
-use file_rows::{Change, FileHead, FileRow, NoMemory, Path, parent_of};
+use file_rows::{Change, FileHead, FileRow, NoMemory, Path, QUOTA, parent_of, used_by};
 use std::alloc::Global;
 use std::marker::Model;
 use std::mem;
@@ -20,6 +21,8 @@ pub struct Tree {
     room: Room,
     // The body of the file for which memory is reserved.
     spare: Vec<u8>,
+    // How much of the quota the files take.
+    used: u32,
 }
 
 impl Model for Tree {
@@ -28,11 +31,11 @@ impl Model for Tree {
     ghost Value = { Files };
 
     ghost use Rattle.uicc_tree.specs.Arena.{files_of};
-    ghost use Rattle.uicc_tree.specs.Change.{IsKept};
+    ghost use Rattle.uicc_tree.specs.Change.{IsCounted};
 
     ghost view = { λ tree. record (files_of tree.arena) { room = tree.room } };
 
-    ghost invariant = { λ tree. IsKept tree.arena tree.spare.items tree.room };
+    ghost invariant = { λ tree. IsCounted tree.arena tree.spare.items tree.room tree.used };
 }
 
 impl Tree {
@@ -44,12 +47,14 @@ impl Tree {
             arena: Arena::new(alloc),
             room: Room::Nothing,
             spare: Vec::new(alloc),
+            used: 0,
         }
     }
 
     /// The tree of the files of a card. It copies their bodies.
     pub fn make(alloc: Global, rows: &[FileRow]) -> Result<Tree, NoMemory>
-        requires { AreFiles rows.now ⊎ (rows.now ≡ []) }
+        requires files { AreFiles rows.now ⊎ (rows.now ≡ []) }
+        requires quota { use_of rows.now ≤ QUOTA }
         ensures { IfOk result (λ tree. rows_of tree ≡ rows.now) }
     {
         let mut arena = Arena::new(alloc);
@@ -63,6 +68,7 @@ impl Tree {
             arena,
             room: Room::Nothing,
             spare: Vec::new(alloc),
+            used: used_by(rows),
         })
     }
 
@@ -124,6 +130,31 @@ impl Tree {
             (file_of_path (rows_of self.now) (parent_of (path_of self.now node))) }
     {
         self.find_path(&parent_of(&self.head(node).path))
+    }
+
+    /// Whether a file of this identifier is in a directory; an application is one too. It looks at
+    /// the directory's children.
+    pub fn has_id(&self, node: u32, id: u16) -> bool
+        requires { IsLive self.now node }
+        ensures { result ≡ is_id_used (rows_of self.now) (path_of self.now node) id }
+    {
+        self.arena.child_with(node, id).is_some()
+    }
+
+    /// Whether an application has exactly this name. It looks at the MF's children.
+    pub fn has_name(&self, name: &[u8]) -> bool
+        ensures { result ≡ is_name_used (rows_of self.now) name.now }
+    {
+        self.arena.has_name(name)
+    }
+
+    /// How much of the quota the files take: each its body and 32 bytes more. The sum is kept, and
+    /// no file is looked at.
+    pub fn used(&self) -> u32
+        ensures sum { result ≡ use_of (rows_of self.now) }
+        ensures quota { result ≤ QUOTA }
+    {
+        self.used
     }
 
     /// What is known of a file beside its body.
@@ -205,9 +236,36 @@ impl Tree {
             → IsLive self.new node × (path_of self.new node ≡ path_of self.old node) }
         ensures room { self.new.room ≡ Room.Nothing }
     {
+        let used = self.used_after(change);
         let alloc = *self.spare.allocator();
         let spare = mem::replace(&mut self.spare, Vec::new(alloc));
         self.arena.change(change, self.room, spare);
         self.room = Room::Nothing;
+        self.used = used;
+    }
+
+    // How much of the quota the files take after a change.
+    fn used_after(&self, change: &Change) -> u32
+        requires { FitsFiles self.now change.now }
+        ensures { result ≡ use_of (rows_after (rows_of self.now) change.now) }
+    {
+        match change {
+            Change::FileAdd { head } => self.used + (u32::from(head.size) + 32),
+            Change::FileGone { path } => self.arena.used_outside(path.as_slice()),
+            Change::FileSize { path, size } => self.used_with_size(path.as_slice(), *size),
+            _ => self.used,
+        }
+    }
+
+    // How much of the quota the files take once a file has this size.
+    fn used_with_size(&self, path: &[u16], size: u16) -> u32
+        requires there { IsSome (file_at path.now (rows_of self.now)) }
+        requires quota { use_of (with_file path.now (with_size size) (rows_of self.now)) ≤ QUOTA }
+        ensures { result ≡ use_of (with_file path.now (with_size size) (rows_of self.now)) }
+    {
+        match self.arena.find(path) {
+            Some(node) => self.used + u32::from(size) - u32::from(self.arena.head(node).size),
+            None => self.used,
+        }
     }
 }

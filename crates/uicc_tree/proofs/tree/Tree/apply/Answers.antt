@@ -1,9 +1,12 @@
-use Rattle.std.proofs.Common.{◌≡◌, ℕ, List, sym, ◌∙◌, ap, subst}
+use Rattle.std.proofs.Common.{◌≡◌, ◌≤◌, ℕ, List, sym, ◌∙◌, ap, subst}
+use Rattle.file_rows.specs.Content.{use_of}
+use Rattle.file_rows.specs.declared.content.TheConstants.{QUOTA}
 use Rattle.file_rows.specs.declared.row.FileRow.{FileRow}
 use Rattle.uicc_tree.specs.Arena.{files_of}
 use Rattle.uicc_tree.specs.Change.{AreRows, FitsFiles, Outlives, rows_after}
 use Rattle.uicc_tree.specs.Files.{Files, IsLive, path_of, rows_of}
 use Rattle.uicc_tree.proofs.ApplyLemmas.{rows_fit}
+use Rattle.uicc_tree.proofs.UsedLemmas.{quota_after}
 use Rattle.uicc_tree.proofs.tree.Tree.apply.Goals as goal
 
 pub change-requires-clause-fits : goal.change-requires-clause-fits
@@ -11,10 +14,14 @@ change-requires-clause-fits c = subst (λ (t : Files). FitsFiles t c.args.change
 
 pub invariant_of-self : goal.invariant_of-self
 invariant_of-self c = record {
-  arena = c.change.ensures.arena;
-  rows = subst (λ (rows : List FileRow). AreRows rows) (sym c.change.ensures.rows)
-      (rows_fit (files_of c.self.inside.arena) c.args.change.now (subst (λ (t : Files). FitsFiles t c.args.change.now) (sym c.self.view_is) c.requires.fits));
-  ready = tt;
+  kept = record {
+    arena = c.change.ensures.arena;
+    rows = subst (λ (rows : List FileRow). AreRows rows) (sym c.change.ensures.rows) (rows_fit (files_of c.self.inside.arena) c.args.change.now (subst (λ (t : Files). FitsFiles t c.args.change.now) (sym c.self.view_is) c.requires.fits));
+    ready = tt;
+  };
+  used = c.used_after-used.ensures ∙ ap use_of (ap (λ (t : Files). rows_after (rows_of t) c.args.change.now) (sym c.self.view_is) ∙ sym c.change.ensures.rows);
+  quota = subst (λ (rows : List FileRow). use_of rows ≤ QUOTA) (sym c.change.ensures.rows)
+      (quota_after (files_of c.self.inside.arena) c.args.change.now (subst (λ (t : Files). FitsFiles t c.args.change.now) (sym c.self.view_is) c.requires.fits));
 }
 
 pub returns-clause-rows : goal.returns-clause-rows

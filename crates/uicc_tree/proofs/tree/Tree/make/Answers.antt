@@ -13,7 +13,7 @@ directory_of-directory-requires-clause-place c =
     let item : c.row-item.result ≡ get_or rows c.loop-row.row-index no_file = get_or_read rows c.loop-row.row-index c.row-item.result c.loop-row-test.true c.row-item.is no_file in
     let path = ap (λ (r : FileRow). r.head.path) (sym item) ∙ sym c.as_slice.ensures.value in
     subst (λ (p : List ℕ). HasDirectory (files_of c.loop-row.arena) p) path
-    (next_has_directory rows (files_there rows c.loop-row.row-index c.loop-row-test.true c.requires) (files_of c.loop-row.arena) c.loop-row.row-index c.loop-row-test.true c.loop-row.invariant.1)
+    (next_has_directory rows (files_there rows c.loop-row.row-index c.loop-row-test.true c.requires.files) (files_of c.loop-row.arena) c.loop-row.row-index c.loop-row-test.true c.loop-row.invariant.1)
 
 pub place-requires-clause-stands : goal.place-requires-clause-stands
 place-requires-clause-stands c =
@@ -22,7 +22,7 @@ place-requires-clause-stands c =
     let path = ap (λ (h : FileHead). h.path) c.copy.ensures ∙ ap (λ (r : FileRow). r.head.path) item in
     let new : (node : ℕ) → IsLive (files_of c.loop-row.arena) node → path_of (files_of c.loop-row.arena) node ≢ c.copy.result.path =
     λ node live e.
-    next_is_new rows (files_there rows c.loop-row.row-index c.loop-row-test.true c.requires) (files_of c.loop-row.arena) c.loop-row.row-index c.loop-row-test.true c.loop-row.invariant.1
+    next_is_new rows (files_there rows c.loop-row.row-index c.loop-row-test.true c.requires.files) (files_of c.loop-row.arena) c.loop-row.row-index c.loop-row-test.true c.loop-row.invariant.1
     node live (e ∙ path) in
     let place : StandsIn (files_of c.loop-row.arena) c.copy.result.path c.directory_of-directory.result =
     subst (λ (p : List ℕ). StandsIn (files_of c.loop-row.arena) p c.directory_of-directory.result)
