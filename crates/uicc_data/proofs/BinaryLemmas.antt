@@ -16,9 +16,11 @@ use Rattle.file_rows.specs.declared.row.FileRow.{FileRow}
 use Rattle.uicc_channels.specs.CommandRow.{decided}
 use Rattle.uicc_channels.specs.Session.{IsOpen, Suits, open_channel}
 use Rattle.uicc_channels.specs.declared.session.Session.{Session}
+use Rattle.uicc_channels.proofs.AmongLemmas.{IsAmong}
+use Rattle.uicc_channels.proofs.CarryLemmas.{stands_open}
 use Rattle.uicc_data.proofs.CarryLemmas.{CanCarryOut-refused, apart_rows, at_its_path}
 use Rattle.uicc_data.proofs.RowLemmas.{on_file-has, where_named-has}
-use Rattle.uicc_data.proofs.SuitsLemmas.{IsAmong, Suits-using, Suits-written, chan_stands, named_among, pointer_stands}
+use Rattle.uicc_data.proofs.SuitsLemmas.{Suits-using, Suits-written, named_among, pointer_stands}
 use Rattle.uicc_data.specs.Binary.{binary_place, read_binary_row, reading, update_binary_row, write_refusal, writing}
 use Rattle.uicc_channels.specs.CarriesOut.{CanCarryOut}
 use Rattle.uicc_data.specs.FileReference.{file_named, not_there, pointer_at, using}
@@ -53,7 +55,7 @@ module _ (content : Content) (valid : IsValid content) (session : Session) (suit
       Suits-using session content.rows c.channel row (pointer_at (open_channel session c.channel) place.file) suits is_open
       (named_among content.rows (open_channel session c.channel) place.file row (apart_rows content valid) named)
       (bare_transparent row.head.kind kind)
-      (pointer_stands content.rows (open_channel session c.channel) place.file row (chan_stands session content.rows c.channel suits is_open) named)
+      (pointer_stands content.rows (open_channel session c.channel) place.file row (stands_open session content.rows c.channel suits is_open) named)
 
   pub CanCarryOut-read_binary : CanCarryOut content (decided session (read_binary_row content.rows allowed session c))
   CanCarryOut-read_binary =

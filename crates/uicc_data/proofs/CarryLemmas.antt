@@ -5,10 +5,10 @@ use Rattle.apdu_codec.specs.declared.status.Sw.{Sw}
 use Rattle.file_rows.specs.Content.{IsValid, file_at}
 use Rattle.file_rows.specs.declared.content.Content.{Content}
 use Rattle.file_rows.specs.declared.row.FileRow.{FileRow}
+use Rattle.uicc_channels.proofs.AmongLemmas.{AreApart, IsAmong}
 use Rattle.uicc_channels.specs.CommandOutcome.{refused}
 use Rattle.uicc_channels.specs.Session.{Suits}
 use Rattle.uicc_channels.specs.declared.session.Session.{Session}
-use Rattle.uicc_data.proofs.SuitsLemmas.{AreApart, IsAmong}
 use Rattle.uicc_channels.specs.CarriesOut.{CanCarryOut}
 
 -- no two files of a card have one path

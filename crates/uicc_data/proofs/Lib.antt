@@ -14,4 +14,6 @@ pub mod SearchCarryLemmas
 pub mod SearchLemmas
 pub mod SuitsLemmas
 pub mod TestLemmas
+pub mod UsageLemmas
 pub mod WriteLemmas
+pub mod DoneLemmas

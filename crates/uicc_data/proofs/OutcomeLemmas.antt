@@ -16,7 +16,8 @@ use Rattle.uicc_channels.specs.Session.{channel_at, open_channel, with_channel}
 use Rattle.uicc_channels.specs.declared.chan.Chan.{Chan}
 use Rattle.uicc_channels.specs.declared.session.Session.{Session}
 use Rattle.uicc_data.proofs.RecordCarryLemmas.{at_record-has}
-use Rattle.uicc_data.proofs.RowLemmas.{first_none, on_file-has, rest_none, where_named-has}
+use Rattle.uicc_channels.proofs.NeedsLemmas.{first_none, rest_none}
+use Rattle.uicc_data.proofs.RowLemmas.{on_file-has, where_named-has}
 use Rattle.uicc_data.proofs.SearchLemmas.{waiting_moved}
 use Rattle.uicc_data.specs.Binary.{binary_place, read_binary_row, reading, update_binary_row, writing}
 use Rattle.uicc_data.specs.FileReference.{file_named, not_there, pointer_at, standing_on, using}

@@ -16,6 +16,7 @@ use Rattle.file_rows.specs.declared.content.Content.{Content}
 use Rattle.file_rows.specs.declared.head.FileHead.{FileHead}
 use Rattle.file_rows.specs.declared.mode.Mode.{Mode}
 use Rattle.file_rows.specs.declared.row.FileRow.{FileRow}
+use Rattle.uicc_channels.proofs.AmongLemmas.{IsAmong}
 use Rattle.uicc_channels.proofs.SessionLemmas.{channel_at-with_channel_same}
 use Rattle.uicc_channels.specs.CommandOutcome.{CommandOutcome, refused}
 use Rattle.uicc_channels.specs.CommandRow.{CommandRow, decided, refusal_of, refused_or}
@@ -26,7 +27,7 @@ use Rattle.uicc_data.proofs.BinaryLemmas.{inside_body}
 use Rattle.uicc_data.proofs.CarryLemmas.{apart_rows}
 use Rattle.uicc_data.proofs.RowLemmas.{named-has, on_file-has}
 use Rattle.uicc_data.proofs.SearchLemmas.{within}
-use Rattle.uicc_data.proofs.SuitsLemmas.{IsAmong, named_among, same_head, written_rows}
+use Rattle.uicc_data.proofs.SuitsLemmas.{named_among, same_head, written_rows}
 use Rattle.uicc_data.specs.Binary.{binary_place, read_binary_row, reading, update_binary_row, write_refusal, writing}
 use Rattle.uicc_data.specs.FileReference.{file_named, not_there, pointer_at, standing_on, using}
 use Rattle.uicc_data.specs.FileUse.{needs_of_reading, needs_of_writing, on_file, on_named, where_named}

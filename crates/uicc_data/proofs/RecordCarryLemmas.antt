@@ -16,6 +16,8 @@ use Rattle.file_rows.specs.declared.head.Kind.{Kind}
 use Rattle.file_rows.specs.declared.head.Kind.TheVariants.{Master, Directory, Application, Transparent, Linear, Cyclic}
 use Rattle.file_rows.specs.declared.mode.Mode.{Mode}
 use Rattle.file_rows.specs.declared.row.FileRow.{FileRow}
+use Rattle.uicc_channels.proofs.AmongLemmas.{IsAmong}
+use Rattle.uicc_channels.proofs.CarryLemmas.{stands_open}
 use Rattle.uicc_channels.specs.CommandOutcome.{CommandOutcome}
 use Rattle.uicc_channels.specs.CommandRow.{decided}
 use Rattle.uicc_channels.specs.Needs.{refused_unless}
@@ -25,8 +27,9 @@ use Rattle.uicc_tree.proofs.ApplyLemmas.{row_is}
 use Rattle.uicc_tree.specs.Change.{AreRows}
 use Rattle.uicc_data.proofs.CarryLemmas.{CanCarryOut-refused, apart_rows, at_its_path}
 use Rattle.uicc_data.proofs.RecordLemmas.{has_record, record_there, whole_records}
-use Rattle.uicc_data.proofs.RowLemmas.{is_met, on_file-has, where_named-has}
-use Rattle.uicc_data.proofs.SuitsLemmas.{IsAmong, Suits-using, Suits-written, chan_stands, named_among, pointer_stands}
+use Rattle.uicc_channels.proofs.NeedsLemmas.{is_met}
+use Rattle.uicc_data.proofs.RowLemmas.{on_file-has, where_named-has}
+use Rattle.uicc_data.proofs.SuitsLemmas.{Suits-using, Suits-written, named_among, pointer_stands}
 use Rattle.uicc_channels.specs.CarriesOut.{CanCarryOut}
 use Rattle.uicc_data.specs.FileReference.{file_named, not_there, pointer_at}
 use Rattle.uicc_data.specs.FileUse.{needs_of_reading, needs_of_writing}
@@ -123,7 +126,7 @@ module _ (content : Content) (valid : IsValid content) (session : Session) (suit
       record {
         among = among;
         whole = whole_records row (row_is content.rows (are_rows content valid) row.head.path row among) has;
-        pointer = pointer_stands content.rows (open_channel session c.channel) file row (chan_stands session content.rows c.channel suits is_open) named;
+        pointer = pointer_stands content.rows (open_channel session c.channel) file row (stands_open session content.rows c.channel suits is_open) named;
       }
 
   pub CanCarryOut-read_record : CanCarryOut content (decided session (read_record_row content.rows allowed session c))

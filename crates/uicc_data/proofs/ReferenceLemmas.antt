@@ -1,30 +1,17 @@
-use Rattle.std.proofs.Common.{◌≡◌, ℕ, Bool, true, false, cond, List, [], ◌∷◌, refl, sym, ◌∙◌, ap, subst, ⊎_elim, Option, Some, None, IsSome}
+use Rattle.std.proofs.Common.{◌≡◌, ℕ, Bool, true, false, cond, List, [], refl, sym, ◌∙◌, ap, subst, ⊎_elim, Option, Some, None, IsSome}
 use Rattle.std.proofs.lemmas.Bool.{true≢false}
 use Rattle.std.proofs.lemmas.List.{set-get_or}
-use Rattle.std.proofs.lemmas.Slice.Eq.{bytes_eq-Decides}
 use Rattle.std.specs.Option.{unwrap_or}
 use Rattle.std.specs.Prelude.{◌==◌, IsSomeAnd, IsTrue}
 use Rattle.file_rows.specs.Content.{file_at}
 use Rattle.file_rows.specs.FileHead.{holds_files}
 use Rattle.file_rows.specs.Find.{child_with_sfi}
-use Rattle.file_rows.specs.Path.{same_path}
 use Rattle.file_rows.specs.declared.row.FileRow.{FileRow}
 use Rattle.uicc_channels.specs.Chan.{IsDirectoryIn, at_master}
 use Rattle.uicc_channels.specs.Session.{IsOpen, channel_at, open_channel, with_channel}
 use Rattle.uicc_channels.specs.declared.chan.Chan.{Chan}
 use Rattle.uicc_channels.specs.declared.session.Session.{Session}
 use Rattle.uicc_data.specs.FileReference.{standing_on, using}
-
--- a file that is found at a path has that path
-pub path_found : (path : List ℕ) (rows : List FileRow) (row : FileRow) → file_at path rows ≡ Some row → row.head.path ≡ path
-path_found path [] row e = absurd (cc)
-path_found path (r ∷ rows) row e =
-    let step : (b : Bool) → same_path r.head.path path ≡ b → cond b (Some r) (file_at path rows) ≡ Some row → row.head.path ≡ path
-    = λ b. elim b as (λ b. same_path r.head.path path ≡ b → cond b (Some r) (file_at path rows) ≡ Some row → row.head.path ≡ path) [
-      | true ↦ λ same f. let is : r ≡ row = cc in ap (λ (x : FileRow). x.head.path) (sym is) ∙ (bytes_eq-Decides r.head.path path).0 same
-      | false ↦ λ same f. path_found path rows row f
-    ]
-    in step (same_path r.head.path path) refl e
 
 no_child : (directory : List ℕ) (sfi : ℕ) → child_with_sfi [] directory sfi ≡ None
 no_child directory sfi = either (sfi == 0)

@@ -15,6 +15,7 @@ use Rattle.file_rows.specs.declared.content.Content.{Content}
 use Rattle.file_rows.specs.declared.head.Kind.TheVariants.{Cyclic}
 use Rattle.file_rows.specs.declared.mode.Mode.{Mode}
 use Rattle.file_rows.specs.declared.row.FileRow.{FileRow}
+use Rattle.uicc_channels.proofs.AmongLemmas.{IsAmong}
 use Rattle.uicc_channels.proofs.SessionLemmas.{Suits-waiting}
 use Rattle.uicc_channels.specs.CommandRow.{decided}
 use Rattle.uicc_channels.specs.Needs.{refused_unless}
@@ -25,8 +26,9 @@ use Rattle.uicc_tree.specs.Change.{IsRow}
 use Rattle.uicc_data.proofs.CarryLemmas.{CanCarryOut-refused, apart_rows, at_its_path}
 use Rattle.uicc_data.proofs.RecordCarryLemmas.{OnRecords, are_rows, at_record-has, bare_records, cyclic_kind, if_some, on_records}
 use Rattle.uicc_data.proofs.RecordLemmas.{IsUpTo, cyclic_has, first_record, has_record, record_there, up_to_count}
-use Rattle.uicc_data.proofs.RowLemmas.{first_none, on_file-has, rest_none, where_named-has}
-use Rattle.uicc_data.proofs.SuitsLemmas.{IsAmong, Suits-using, Suits-written, named_among}
+use Rattle.uicc_channels.proofs.NeedsLemmas.{first_none, rest_none}
+use Rattle.uicc_data.proofs.RowLemmas.{on_file-has, where_named-has}
+use Rattle.uicc_data.proofs.SuitsLemmas.{Suits-using, Suits-written, named_among}
 use Rattle.uicc_channels.specs.CarriesOut.{CanCarryOut}
 use Rattle.uicc_data.specs.FileReference.{file_named, not_there, pointer_at, using}
 use Rattle.uicc_data.specs.FileUse.{needs_of_writing}

@@ -1,59 +1,25 @@
 -- A session goes on to suit its card after a command on a file.
-use Rattle.std.proofs.Common.{◌≡◌, ◌≢◌, ◌⊎◌, ℕ, Bool, true, false, cond, ◌&&◌, List, [], ◌∷◌, find, refl, sym, ◌∙◌, ap, subst, inl, inr, ⊎_elim, Option, Some, None, IfSome, IsSome}
-use Rattle.std.proofs.lemmas.Bool.{true≢false}
-use Rattle.std.specs.List.{AllByRecursion}
-use Rattle.std.specs.Option.{option_and_then, unwrap_or}
+use Rattle.std.proofs.Common.{◌≡◌, ◌⊎◌, ℕ, Bool, true, false, cond, ◌&&◌, List, [], ◌∷◌, find, refl, sym, ap, subst, inl, inr, ⊎_elim, Option, Some, None, IfSome}
+use Rattle.std.specs.Option.{option_and_then}
 use Rattle.std.specs.Prelude.{◌==◌, IsSomeAnd, IsTrue}
-use Rattle.plain_lists.specs.EachTwo.{EachTwo}
-use Rattle.file_rows.proofs.ChangeLemmas.{same_path-other, same_path-refl}
 use Rattle.file_rows.specs.Change.{with_body, with_file}
-use Rattle.file_rows.specs.Content.{file_at, heads_of}
+use Rattle.file_rows.specs.Content.{file_at}
 use Rattle.file_rows.specs.FileHead.{HasRecord, holds_files}
 use Rattle.file_rows.specs.Find.{child_with_sfi}
 use Rattle.file_rows.specs.Path.{is_in, same_path}
 use Rattle.file_rows.specs.declared.head.FileHead.{FileHead}
 use Rattle.file_rows.specs.declared.head.Kind.TheVariants.{Application}
 use Rattle.file_rows.specs.declared.row.FileRow.{FileRow}
+use Rattle.uicc_channels.proofs.AmongLemmas.{AreApart, IsAmong, among_found, path_found}
+use Rattle.uicc_channels.proofs.CarryLemmas.{stands_open}
 use Rattle.uicc_channels.proofs.SessionLemmas.{Suits-with_channel}
-use Rattle.uicc_channels.specs.Chan.{IsDirectoryIn, StandsAmong, at_master}
+use Rattle.uicc_channels.specs.Chan.{IsDirectoryIn, StandsAmong}
 use Rattle.uicc_channels.specs.Session.{IsOpen, Suits, channel_at, open_channel}
 use Rattle.uicc_channels.specs.declared.chan.Chan.{Chan}
 use Rattle.uicc_channels.specs.declared.session.Session.{Session}
-use Rattle.uicc_data.proofs.ReferenceLemmas.{path_found}
 use Rattle.uicc_data.specs.FileReference.{file_named, pointer_at, standing_on, using}
 use Rattle.uicc_data.specs.declared.reference.FileReference.{FileReference}
 use Rattle.uicc_data.specs.declared.reference.FileReference.TheVariants.{CurrentEf, Sfi}
-
--- the file is the one of its path
-abbrev pub IsAmong : List FileRow → FileRow → Type 0
-IsAmong rows row = file_at row.head.path rows ≡ Some row
-
--- no two files have one path
-abbrev pub AreApart : List FileRow → Type 0
-AreApart rows = EachTwo (λ one other. one.path ≢ other.path) (heads_of rows)
-
-pub found_step : (b : Bool) (r : FileRow) (later : Option FileRow) (row : FileRow) → cond b (Some r) later ≡ Some row → ((b ≡ true) × (r ≡ row)) ⊎ (later ≡ Some row)
-found_step true r later row e = inl (refl, cc)
-found_step false r later row e = inr e
-
--- what holds of each file's head holds of that of what is found
-found_head : (P : FileHead → Type 0) (test : FileRow → Bool) (rows : List FileRow) (row : FileRow) → AllByRecursion P (heads_of rows) → find test rows ≡ Some row → P row.head
-found_head P test [] row each e = absurd (cc)
-found_head P test (r ∷ rows) row each e =
-    ⊎_elim (λ here. subst (λ (x : FileRow). P x.head) here.1 each.0) (λ later. found_head P test rows row each.1 later) (found_step (test r) r (find test rows) row e)
-
--- what any search finds is the file of its path
-among_found : (test : FileRow → Bool) (rows : List FileRow) (row : FileRow) → AreApart rows → find test rows ≡ Some row → IsAmong rows row
-among_found test [] row apart e = absurd (cc)
-among_found test (r ∷ rows) row apart e =
-    ⊎_elim
-    (λ here. subst (λ (x : FileRow). IsAmong (r ∷ rows) x) here.1
-    (ap (λ (b : Bool). cond b (Some r) (file_at r.head.path rows)) (same_path-refl r.head.path)))
-    (λ later.
-    let other : r.head.path ≢ row.head.path = found_head (λ (head : FileHead). r.head.path ≢ head.path) test rows row apart.0 later in
-    ap (λ (b : Bool). cond b (Some r) (file_at row.head.path rows)) (same_path-other r.head.path row.head.path other)
-    ∙ among_found test rows row apart.1 later)
-    (found_step (test r) r (find test rows) row e)
 
 child_among : (rows : List FileRow) (directory : List ℕ) (sfi : ℕ) (row : FileRow) → AreApart rows → child_with_sfi rows directory sfi ≡ Some row → IsAmong rows row
 child_among rows directory sfi row apart e = either (sfi == 0) e
@@ -90,19 +56,11 @@ StandsAmong-standing_on rows row chan pointer among bare record_there stands = r
   pointer = ⊎_elim (λ none. inl none) (λ has. inr (subst (λ (o : Option FileRow). IsSomeAnd o (λ row. HasRecord row.head pointer)) (sym among) has)) record_there;
 }
 
--- the channel of a command that is open stands among the files
-pub chan_stands : (session : Session) (rows : List FileRow) (number : ℕ) → Suits session rows → IsOpen session number → StandsAmong rows (open_channel session number)
-chan_stands session rows number suits is_open = either (channel_at session number) is_open (suits.each number)
-  where
-    either : (place : Option Chan) → IsSome place → IfSome place (StandsAmong rows) → StandsAmong rows (unwrap_or place at_master)
-    either None is_open stands = absurd (true≢false (sym is_open))
-    either (Some chan) is_open stands = stands
-
 pub Suits-using : (session : Session) (rows : List FileRow) (number : ℕ) (row : FileRow) (pointer : ℕ) → Suits session rows → IsOpen session number → IsAmong rows row
     → holds_files row.head.kind ≡ false → (pointer ≡ 0) ⊎ HasRecord row.head pointer → Suits (using session number row.head.path pointer) rows
 Suits-using session rows number row pointer suits is_open among bare record_there =
     Suits-with_channel session rows number (Some (standing_on row.head.path pointer (open_channel session number))) suits
-    (StandsAmong-standing_on rows row (open_channel session number) pointer among bare record_there (chan_stands session rows number suits is_open)) (λ e. refl)
+    (StandsAmong-standing_on rows row (open_channel session number) pointer among bare record_there (stands_open session rows number suits is_open)) (λ e. refl)
 
 module _ (path : List ℕ) (write : List ℕ → List ℕ) where
   abbrev pub written_rows : List FileRow → List FileRow

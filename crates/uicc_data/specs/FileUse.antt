@@ -1,14 +1,16 @@
-use Rattle.std.specs.Prelude.{ℕ, ◌≡◌, Bool, false, not, ◌==◌, ◌&&◌, List, length, Option, Some, None, is_some, Result, Ok, Err}
+use Rattle.std.specs.Prelude.{ℕ, ◌≡◌, Bool, false, not, ◌==◌, ◌&&◌, List, [], ◌∷◌, length, Option, Some, None, is_some, Result, Ok, Err}
 use Rattle.apdu_codec.specs.Answer.{status_alone}
 use Rattle.apdu_codec.specs.Command.{Apdu}
 use Rattle.apdu_codec.specs.declared.status.Sw.{Sw}
-use Rattle.apdu_codec.specs.declared.status.TheConstants.Sw.{OK}
+use Rattle.apdu_codec.specs.declared.status.TheConstants.Sw.{INCOMPATIBLE_STRUCTURE, OK, SECURITY_NOT_SATISFIED}
+use Rattle.file_rows.specs.declared.head.Life.{Life}
 use Rattle.file_rows.specs.declared.mode.Mode.{Mode}
 use Rattle.file_rows.specs.declared.row.FileRow.{FileRow}
+use Rattle.plain_lists.specs.FirstOf.{first_of}
 use Rattle.uicc_channels.specs.CommandOutcome.{CommandOutcome, answering, outcome_of}
 use Rattle.uicc_channels.specs.CommandRow.{CommandRow}
 use Rattle.uicc_channels.specs.Life.{life_refusal}
-use Rattle.uicc_channels.specs.Needs.{Needs, needs_of}
+use Rattle.uicc_channels.specs.Needs.{Needs, needs_of, refused_unless}
 use Rattle.uicc_channels.specs.Session.{open_channel}
 use Rattle.uicc_channels.specs.declared.decided.Decided.{Decided}
 use Rattle.uicc_channels.specs.declared.session.Session.{Session}
@@ -24,6 +26,15 @@ pub record FileUse : Type 0 where
   -- what the command alone asks
   pub own : Option Sw
   pub done : CommandOutcome
+
+-- why a file can't be used: its kind, its life cycle status, and then the access rules
+abbrev pub use_refusal : Bool → Life → Bool → Option Sw
+use_refusal kind life allowed =
+    first_of
+    (refused_unless kind INCOMPATIBLE_STRUCTURE
+    ∷ life_refusal life
+    ∷ refused_unless allowed SECURITY_NOT_SATISFIED
+    ∷ [])
 
 -- what came of a command on its file is what it does there: it was done, and this was decided, or
 -- the command itself refused

@@ -1,4 +1,3 @@
-pub mod Access
 pub mod Binary
 pub mod Data
 pub mod FileReference
@@ -10,3 +9,4 @@ pub mod ReadBack
 pub mod Record
 pub mod RecordWalk
 pub mod Search
+pub mod WorksOn

@@ -6,14 +6,15 @@ ghost use Rattle.uicc_channels.specs.CommandOutcome.{outcome_of};
 ghost use Rattle.uicc_channels.specs.CommandRow.{Follows, decided};
 ghost use Rattle.uicc_channels.specs.Session.{IsOpen, Suits};
 ghost use Rattle.uicc_tree.specs.Files.{IsLive, file_of, rows_of};
-ghost use Rattle.uicc_data.specs.Access.{AnswersFor};
+ghost use Rattle.uicc_tree.specs.Access.{AnswersFor};
 ghost use Rattle.uicc_data.specs.Binary.{update_binary_row, write_refusal};
 
 use crate::binary::{binary_place, rest_from};
 use crate::reference::{find_file, pointer_at, use_file};
-use apdu_codec::{Command, Sw, class_fits};
+use crate::usage::{require_named, require_usable};
+use apdu_codec::{Command, Sw};
 use file_rows::{Change, Kind, Mode, Piece};
-use uicc_channels::{Decided, Guard, Session, conclude, require, require_active};
+use uicc_channels::{Decided, Guard, Session, conclude, has_body, require};
 use uicc_tree::Tree;
 
 // Whether so many bytes can be written from the offset on.
@@ -71,18 +72,13 @@ fn try_update_binary<G: Guard>(
         (update_binary_row (rows_of tree.now) allowed session.now (apdu_of command.now))
         into.new result }
 {
-    require(class_fits(command.ins, command.class), Sw::WRONG_CLASS)?;
-    let Some(place) = binary_place(command.p1, command.p2) else {
-        return Err(Sw::WRONG_P1_P2);
-    };
-    require(!command.body.is_empty(), Sw::WRONG_LENGTH)?;
+    let named = binary_place(command.p1, command.p2);
+    let place = require_named(command, named, has_body(command))?;
     let chan = session.open_channel(command.channel);
     let node = find_file(tree, chan, place.file)?;
     let head = tree.head(node);
-    require(head.kind == Kind::Transparent, Sw::INCOMPATIBLE_STRUCTURE)?;
-    require_active(head.life)?;
-    let allowed = guard.allows(node, Mode::Bit(0x02), session);
-    require(allowed, Sw::SECURITY_NOT_SATISFIED)?;
+    let kind = head.kind == Kind::Transparent;
+    require_usable(tree, guard, session, node, kind, Mode::Bit(0x02))?;
     require_inside(tree.bytes(node), place.offset, command.body)?;
     into.set_status(Sw::OK);
     let pointer = pointer_at(chan, place.file);

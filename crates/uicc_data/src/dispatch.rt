@@ -6,7 +6,7 @@ ghost use Rattle.uicc_channels.specs.CommandRow.{decided};
 ghost use Rattle.uicc_channels.specs.Session.{IsOpen, Suits};
 ghost use Rattle.uicc_tree.specs.Change.{AreRows};
 ghost use Rattle.uicc_tree.specs.Files.{IsLive, rows_of};
-ghost use Rattle.uicc_data.specs.Access.{AnswersFor};
+ghost use Rattle.uicc_tree.specs.Access.{AnswersFor};
 ghost use Rattle.uicc_data.specs.Data.{IsOnData, data_row};
 
 use crate::binary_read::read_binary;

@@ -6,7 +6,7 @@ ghost use Rattle.uicc_channels.specs.CommandRow.{Follows, decided};
 ghost use Rattle.uicc_channels.specs.Session.{IsOpen, Suits};
 ghost use Rattle.uicc_tree.specs.Change.{AreRows};
 ghost use Rattle.uicc_tree.specs.Files.{IsLive, file_of, rows_of};
-ghost use Rattle.uicc_data.specs.Access.{AnswersFor};
+ghost use Rattle.uicc_tree.specs.Access.{AnswersFor};
 ghost use Rattle.uicc_data.specs.FileUse.{FollowsUse};
 ghost use Rattle.uicc_data.specs.Increase.{can_be_added, giving_sum, increase_file, increase_row, increasing};
 ghost use Rattle.uicc_data.specs.Record.{FollowsRecordUse};
@@ -16,10 +16,11 @@ ghost use Rattle.uicc_data.specs.RecordWalk.{record_bytes};
 use crate::delivery::deliver_on;
 use crate::number::sum_of;
 use crate::reference::{FileReference, find_file};
+use crate::usage::{require_named, require_usable};
 use crate::walk::record_bytes;
-use apdu_codec::{AnswerBody, Command, Sw, class_fits};
+use apdu_codec::{AnswerBody, Command, Sw};
 use file_rows::{Change, Mode, Path, Piece};
-use uicc_channels::{Decided, Guard, Session, conclude, require, require_active, require_le};
+use uicc_channels::{Decided, Guard, Session, conclude, has_body, require, require_le};
 use uicc_tree::Tree;
 
 fn increase_file(p1: u8, p2: u8) -> Option<FileReference>
@@ -140,18 +141,12 @@ fn try_increase<G: Guard>(
         (increase_row (rows_of tree.now) allowed session.now (apdu_of command.now))
         into.new result }
 {
-    require(class_fits(command.ins, command.class), Sw::WRONG_CLASS)?;
-    let Some(file) = increase_file(command.p1, command.p2) else {
-        return Err(Sw::WRONG_P1_P2);
-    };
-    require(!command.body.is_empty(), Sw::WRONG_LENGTH)?;
+    let named = increase_file(command.p1, command.p2);
+    let file = require_named(command, named, has_body(command))?;
     let chan = session.open_channel(command.channel);
     let node = find_file(tree, chan, file)?;
-    let head = tree.head(node);
-    require(head.kind.is_cyclic(), Sw::INCOMPATIBLE_STRUCTURE)?;
-    require_active(head.life)?;
-    let allowed = guard.allows(node, Mode::Ins(0x32), session);
-    require(allowed, Sw::SECURITY_NOT_SATISFIED)?;
+    let kind = tree.head(node).kind.is_cyclic();
+    require_usable(tree, guard, session, node, kind, Mode::Ins(0x32))?;
     increase_named(tree, node, session, command, into)?;
     Ok(())
 }

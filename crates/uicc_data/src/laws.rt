@@ -7,8 +7,9 @@ ghost use Rattle.file_rows.specs.declared.change.Change.{Change};
 ghost use Rattle.file_rows.specs.declared.content.Content.{Content};
 ghost use Rattle.file_rows.specs.declared.mode.Mode.{Mode};
 ghost use Rattle.file_rows.specs.declared.row.FileRow.{FileRow};
+ghost use Rattle.uicc_channels.specs.Accepted.{IsDoneOrRefused};
 ghost use Rattle.uicc_channels.specs.CommandRow.{decided};
-ghost use Rattle.uicc_channels.specs.Session.{Suits, channel_at};
+ghost use Rattle.uicc_channels.specs.Session.{Suits, channel_at, open_channel};
 ghost use Rattle.uicc_channels.specs.declared.chan.Chan.{Chan};
 ghost use Rattle.uicc_channels.specs.declared.session.Session.{Session};
 ghost use Rattle.uicc_data.specs.Binary.{read_binary_row, update_binary_row};
@@ -21,6 +22,7 @@ ghost use Rattle.uicc_data.specs.ReadBack.{ReadsBack, read_outcome};
 ghost use Rattle.uicc_data.specs.Record.{read_record_row, update_record_row};
 ghost use Rattle.uicc_data.specs.RecordWalk.{record_bytes};
 ghost use Rattle.uicc_data.specs.Search.{holds_run, search_record_row};
+ghost use Rattle.uicc_data.specs.WorksOn.{WritesWhereItWorks};
 
 /// A card can carry out what each command on data comes to, accepted or refused, whatever its
 /// access rules allow: a change fits its content, and its session goes on to suit its files.
@@ -139,4 +141,19 @@ pub fn written_records_stand_in_their_places()
         → length bytes ≡ row.head.record_len
         → record_bytes (with_body (with_record 0 bytes) row) (number + 1)
         ≡ record_bytes row number }
+{}
+
+/// Where a command on data is answered with a status word that doesn't accept it, that is the whole
+/// answer, and nothing changes.
+pub fn refused_data_commands_change_nothing()
+    ensures { (rows : List FileRow) (allowed : List ℕ → Mode → Bool) (session : Session)
+        (c : Apdu) → IsDoneOrRefused session (decided session (data_row rows allowed session c)) }
+{}
+
+/// A command on data changes at most the body of the file that it works on: the current EF of its
+/// channel, or a file of its current directory by SFI.
+pub fn data_commands_write_where_they_work()
+    ensures { (rows : List FileRow) (allowed : List ℕ → Mode → Bool) (session : Session)
+        (c : Apdu) → WritesWhereItWorks rows (open_channel session c.channel)
+        (decided session (data_row rows allowed session c)).change }
 {}

@@ -16,6 +16,7 @@ mod record_read;
 mod record_update;
 mod reference;
 mod search;
+mod usage;
 mod walk;
 
 pub use binary::BinaryPlace;
@@ -24,9 +25,10 @@ pub use binary_update::update_binary;
 pub use dispatch::data_command;
 pub use increase_command::increase;
 pub use laws::{
-    cards_carry_out_data_commands, data_commands_move_their_channel_alone, reads_change_no_file,
-    runs_stand_in_their_bytes, sums_are_of_their_numbers, written_bytes_are_read_back,
-    written_records_stand_in_their_places,
+    cards_carry_out_data_commands, data_commands_move_their_channel_alone,
+    data_commands_write_where_they_work, reads_change_no_file,
+    refused_data_commands_change_nothing, runs_stand_in_their_bytes, sums_are_of_their_numbers,
+    written_bytes_are_read_back, written_records_stand_in_their_places,
 };
 pub use record_read::read_record;
 pub use record_update::{WritePlace, update_record};

@@ -7,7 +7,7 @@ ghost use Rattle.uicc_channels.specs.Delivery.{le_refusal};
 ghost use Rattle.uicc_channels.specs.Session.{IsOpen, Suits, open_channel};
 ghost use Rattle.uicc_tree.specs.Change.{AreRows};
 ghost use Rattle.uicc_tree.specs.Files.{IsLive, file_of, rows_of};
-ghost use Rattle.uicc_data.specs.Access.{AnswersFor};
+ghost use Rattle.uicc_tree.specs.Access.{AnswersFor};
 ghost use Rattle.uicc_data.specs.FileReference.{pointer_at, using};
 ghost use Rattle.uicc_data.specs.FileUse.{FollowsUse};
 ghost use Rattle.uicc_data.specs.Record.{read_record_row, reading_record};
@@ -15,10 +15,11 @@ ghost use Rattle.file_rows.specs.FileHead.{has_records};
 ghost use Rattle.uicc_data.specs.RecordWalk.{IsPointerIn};
 
 use crate::reference::{find_file, pointer_at, use_file};
+use crate::usage::{require_named, require_usable};
 use crate::walk::{RecordPlace, find_record, pointer_after, record_bytes, record_place};
-use apdu_codec::{Command, Sw, class_fits};
+use apdu_codec::{Command, Sw};
 use file_rows::{Mode, Path};
-use uicc_channels::{Decided, Guard, Session, conclude, require, require_active, require_le};
+use uicc_channels::{Decided, Guard, Session, conclude, has_le_alone, require_le};
 use uicc_tree::Tree;
 
 // Answers with a record, where Le takes it, and leaves the channel on its file with this pointer.
@@ -125,20 +126,12 @@ fn try_read_record<G: Guard>(
         (read_record_row (rows_of tree.now) allowed session.now (apdu_of command.now))
         into.new result }
 {
-    require(class_fits(command.ins, command.class), Sw::WRONG_CLASS)?;
-    let Some(place) = record_place(command.p1, command.p2) else {
-        return Err(Sw::WRONG_P1_P2);
-    };
-    let (true, Some(_)) = (command.body.is_empty(), command.le) else {
-        return Err(Sw::WRONG_LENGTH);
-    };
+    let named = record_place(command.p1, command.p2);
+    let place = require_named(command, named, has_le_alone(command))?;
     let chan = session.open_channel(command.channel);
     let node = find_file(tree, chan, place.file)?;
-    let head = tree.head(node);
-    require(head.kind.has_records(), Sw::INCOMPATIBLE_STRUCTURE)?;
-    require_active(head.life)?;
-    let allowed = guard.allows(node, Mode::Bit(0x01), session);
-    require(allowed, Sw::SECURITY_NOT_SATISFIED)?;
+    let kind = tree.head(node).kind.has_records();
+    require_usable(tree, guard, session, node, kind, Mode::Bit(0x01))?;
     read_named(tree, node, session, command, place, into)?;
     Ok(())
 }

@@ -7,15 +7,16 @@ ghost use Rattle.uicc_channels.specs.CommandRow.{Follows, decided};
 ghost use Rattle.uicc_channels.specs.Session.{IsOpen, Suits};
 ghost use Rattle.uicc_tree.specs.Change.{AreRows};
 ghost use Rattle.uicc_tree.specs.Files.{IsLive, file_of, rows_of};
-ghost use Rattle.uicc_data.specs.Access.{AnswersFor};
+ghost use Rattle.uicc_tree.specs.Access.{AnswersFor};
 ghost use Rattle.uicc_data.specs.Record.{is_previous, update_record_row, write_place};
 ghost use Rattle.uicc_data.specs.RecordWalk.{IsPointerIn};
 
 use crate::reference::{find_file, pointer_at, use_file};
+use crate::usage::{require_named, require_usable};
 use crate::walk::{RecordName, find_record, pointer_after, record_place};
-use apdu_codec::{Command, Sw, class_fits};
+use apdu_codec::{Command, Sw};
 use file_rows::{Change, Kind, Mode, Piece};
-use uicc_channels::{Decided, Guard, Session, conclude, require, require_active};
+use uicc_channels::{Decided, Guard, Session, conclude, has_body, require};
 use uicc_tree::Tree;
 
 /// Where UPDATE RECORD writes: the number of a record, or 0 for a new record 1 of a cyclic file,
@@ -104,21 +105,13 @@ fn try_update_record<G: Guard>(
         (update_record_row (rows_of tree.now) allowed session.now (apdu_of command.now))
         into.new result }
 {
-    require(class_fits(command.ins, command.class), Sw::WRONG_CLASS)?;
-    let Some(place) = record_place(command.p1, command.p2) else {
-        return Err(Sw::WRONG_P1_P2);
-    };
-    require(!command.body.is_empty(), Sw::WRONG_LENGTH)?;
+    let named = record_place(command.p1, command.p2);
+    let place = require_named(command, named, has_body(command))?;
     let chan = session.open_channel(command.channel);
     let node = find_file(tree, chan, place.file)?;
     let head = tree.head(node);
-    require(
-        takes_update(head.kind, place.name),
-        Sw::INCOMPATIBLE_STRUCTURE,
-    )?;
-    require_active(head.life)?;
-    let allowed = guard.allows(node, Mode::Bit(0x02), session);
-    require(allowed, Sw::SECURITY_NOT_SATISFIED)?;
+    let kind = takes_update(head.kind, place.name);
+    require_usable(tree, guard, session, node, kind, Mode::Bit(0x02))?;
     let pointer = pointer_at(chan, place.file);
     let Some(written) = find_write_place(tree, node, pointer, place.name) else {
         return Err(Sw::RECORD_NOT_FOUND);

@@ -7,7 +7,7 @@ ghost use Rattle.uicc_channels.specs.CommandRow.{Follows, decided};
 ghost use Rattle.uicc_channels.specs.Session.{IsOpen, Suits, open_channel};
 ghost use Rattle.uicc_tree.specs.Change.{AreRows};
 ghost use Rattle.uicc_tree.specs.Files.{IsLive, file_of, rows_of};
-ghost use Rattle.uicc_data.specs.Access.{AnswersFor};
+ghost use Rattle.uicc_tree.specs.Access.{AnswersFor};
 ghost use Rattle.uicc_data.specs.FileReference.{pointer_at, using};
 ghost use Rattle.uicc_data.specs.FileUse.{FollowsUse};
 ghost use Rattle.uicc_data.specs.Record.{FollowsRecordUse};
@@ -16,11 +16,12 @@ ghost use Rattle.uicc_data.specs.Search.{after_steps, direction_of, first_one, f
 
 use crate::delivery::deliver_on;
 use crate::reference::{FileReference, find_file, pointer_at};
+use crate::usage::{require_named, require_usable};
 use crate::walk::{RecordName, find_record, numbered, record_bytes, record_count, record_file};
-use apdu_codec::{Command, Sw, class_fits};
+use apdu_codec::{Command, Sw};
 use file_rows::{Mode, Path};
 use plain_lists::ShortList;
-use uicc_channels::{Decided, Guard, Session, conclude, require, require_active, require_le};
+use uicc_channels::{Decided, Guard, Session, conclude, has_body, require_le};
 use uicc_tree::Tree;
 
 /// Which way SEARCH RECORD goes over the records.
@@ -260,18 +261,12 @@ fn try_search_record<G: Guard>(
         (search_record_row (rows_of tree.now) allowed session.now (apdu_of command.now))
         into.new result }
 {
-    require(class_fits(command.ins, command.class), Sw::WRONG_CLASS)?;
-    let Some(place) = search_place(command.p1, command.p2) else {
-        return Err(Sw::WRONG_P1_P2);
-    };
-    require(!command.body.is_empty(), Sw::WRONG_LENGTH)?;
+    let named = search_place(command.p1, command.p2);
+    let place = require_named(command, named, has_body(command))?;
     let chan = session.open_channel(command.channel);
     let node = find_file(tree, chan, place.file)?;
-    let head = tree.head(node);
-    require(head.kind.has_records(), Sw::INCOMPATIBLE_STRUCTURE)?;
-    require_active(head.life)?;
-    let allowed = guard.allows(node, Mode::Bit(0x01), session);
-    require(allowed, Sw::SECURITY_NOT_SATISFIED)?;
+    let kind = tree.head(node).kind.has_records();
+    require_usable(tree, guard, session, node, kind, Mode::Bit(0x01))?;
     search_named(tree, node, session, command, place, into)?;
     Ok(())
 }

@@ -1,15 +1,12 @@
-use Rattle.std.proofs.Common.{◌≡◌, ◌≢◌, ◌⊎◌, ℕ, Bool, true, false, cond, suc, ◌+◌, ◌<◌, List, [], ◌∷◌, ◌++◌, length, get_or, drop, drop-cons, add-one, find, refl, sym, ◌∙◌, ap, subst, inl, inr, Option, Some, None, IfSome, ⊎_elim}
-use Rattle.std.specs.List.{AllByRecursion}
+use Rattle.std.proofs.Common.{◌≡◌, ℕ, Bool, true, false, cond, suc, ◌+◌, ◌<◌, List, [], ◌∷◌, ◌++◌, length, get_or, drop, drop-cons, add-one, find, refl, sym, ap, subst, Option, Some, None, IfSome}
 use Rattle.std.specs.Prelude.{◌==◌}
 use Rattle.std.specs.Option.{option_and_then, option_or}
-use Rattle.plain_lists.specs.EachTwo.{EachTwo}
-use Rattle.file_rows.proofs.ChangeLemmas.{same_path-other, same_path-refl}
-use Rattle.file_rows.specs.Content.{file_at, heads_of}
+use Rattle.file_rows.specs.Content.{file_at}
 use Rattle.file_rows.specs.Find.{child, file_of_path, only}
 use Rattle.file_rows.specs.Path.{own_id, parent_of, same_path}
-use Rattle.file_rows.specs.declared.head.FileHead.{FileHead}
 use Rattle.file_rows.specs.declared.path.TheConstants.{CURRENT_APPLICATION_ID, MASTER_FILE_ID}
 use Rattle.file_rows.specs.declared.row.FileRow.{FileRow}
+use Rattle.uicc_channels.proofs.AmongLemmas.{AreApart, IsAmong, among_found}
 use Rattle.uicc_channels.specs.declared.chan.Chan.{Chan}
 use Rattle.uicc_select.specs.Find.{directory_in, found, found_by_id, found_from_master, found_near, found_through, itself}
 use Rattle.uicc_select.specs.declared.naming.Target.{Target}
@@ -20,48 +17,6 @@ pub found_through-next : (rows : List FileRow) (ids : List ℕ) (i : ℕ) (row n
     → found_through rows (drop (i + 1) ids) next ≡ found_through rows (drop i ids) row
 found_through-next rows ids i row next within e =
     rw (add-one, drop-cons ids i 0) (sym (ap (λ (file : Option FileRow). option_and_then (found_through rows (drop (suc i) ids)) file) e))
-
--- no two files have one path
-abbrev pub AreApart : List FileRow → Type 0
-AreApart rows = EachTwo (λ one other. one.path ≢ other.path) (heads_of rows)
-
--- the file is the one of its path
-abbrev pub IsAmong : List FileRow → FileRow → Type 0
-IsAmong rows row = file_at row.head.path rows ≡ Some row
-
--- a search finds the first file, which passes, or a later one
-find_step : (b : Bool) (r : FileRow) (later : Option FileRow) (row : FileRow) → cond b (Some r) later ≡ Some row → ((b ≡ true) × (r ≡ row)) ⊎ (later ≡ Some row)
-find_step true r later row e = inl (refl, cc)
-find_step false r later row e = inr e
-
--- what is found passes
-pub found_passes : (test : FileRow → Bool) (rows : List FileRow) (row : FileRow) → find test rows ≡ Some row → test row ≡ true
-found_passes test [] row e = absurd (cc)
-found_passes test (r ∷ rows) row e =
-    ⊎_elim (λ here. ap test (sym here.1) ∙ here.0) (λ later. found_passes test rows row later) (find_step (test r) r (find test rows) row e)
-
--- what holds of each file's head holds of that of what is found
-pub found_head : (P : FileHead → Type 0) (test : FileRow → Bool) (rows : List FileRow) (row : FileRow) → AllByRecursion P (heads_of rows) → find test rows ≡ Some row → P row.head
-found_head P test [] row each e = absurd (cc)
-found_head P test (r ∷ rows) row each e =
-    ⊎_elim (λ here. subst (λ (x : FileRow). P x.head) here.1 each.0) (λ later. found_head P test rows row each.1 later) (find_step (test r) r (find test rows) row e)
-
--- an earlier file has another path
-pub among_later : (r : FileRow) (rows : List FileRow) (row : FileRow) → AllByRecursion (λ other. r.head.path ≢ other.path) (heads_of rows) → IsAmong rows row → IsAmong (r ∷ rows) row
-among_later r rows row apart among =
-    let other : r.head.path ≢ row.head.path = found_head (λ (head : FileHead). r.head.path ≢ head.path) (λ (x : FileRow). same_path x.head.path row.head.path) rows row apart among in
-    ap (λ (b : Bool). cond b (Some r) (file_at row.head.path rows)) (same_path-other r.head.path row.head.path other) ∙ among
-
-pub among_first : (r : FileRow) (rows : List FileRow) → IsAmong (r ∷ rows) r
-among_first r rows = ap (λ (b : Bool). cond b (Some r) (file_at r.head.path rows)) (same_path-refl r.head.path)
-
--- what any search finds is the file of its path
-pub among_found : (test : FileRow → Bool) (rows : List FileRow) (row : FileRow) → AreApart rows → find test rows ≡ Some row → IsAmong rows row
-among_found test [] row apart e = absurd (cc)
-among_found test (r ∷ rows) row apart e =
-    ⊎_elim (λ here. subst (λ (x : FileRow). IsAmong (r ∷ rows) x) here.1 (among_first r rows))
-    (λ later. among_later r rows row apart.0 (among_found test rows row apart.1 later))
-    (find_step (test r) r (find test rows) row e)
 
 module _ {X : Type 0} (P : X → Type 0) where
   -- what is said of what there may be

@@ -1,5 +1,5 @@
-pub mod DirectoryLemmas
 pub mod FileLemmas
 pub mod FoundLemmas
 pub mod SuitsLemmas
 pub mod SelectionLemmas
+pub mod LocalLemmas

@@ -1,4 +1,5 @@
-use Rattle.std.proofs.Common.{◌≡◌, ℕ, Bool, true, false, cond, ◌&&◌, List, [], refl, sym, ◌∙◌, ap, subst, inl, inr, ⊎_elim, Option, Some, None, IfSome, IsSomeAnd, IsTrue}
+use Rattle.std.proofs.Common.{◌≡◌, ◌≢◌, ℕ, Bool, true, false, cond, ◌&&◌, List, [], refl, sym, ◌∙◌, ap, subst, inl, inr, ⊎_elim, Option, Some, None, IfSome, IsSomeAnd, IsTrue}
+use Rattle.std.proofs.lemmas.Bool.{true≢false}
 use Rattle.std.specs.Prelude.{◌==◌}
 use Rattle.std.specs.Option.{unwrap_or}
 use Rattle.apdu_codec.specs.Command.{Apdu}
@@ -10,6 +11,8 @@ use Rattle.file_rows.specs.declared.head.Kind.{Kind}
 use Rattle.file_rows.specs.declared.head.Kind.TheVariants.{Master, Directory as DedicatedFile, Application, Transparent, Linear, Cyclic}
 use Rattle.file_rows.specs.declared.pin.PinRow.{PinRow}
 use Rattle.file_rows.specs.declared.row.FileRow.{FileRow}
+use Rattle.uicc_channels.proofs.AmongLemmas.{AreApart, IsAmong, found_passes}
+use Rattle.uicc_channels.proofs.DirectoryLemmas.{directory_of_file}
 use Rattle.uicc_channels.proofs.RowLemmas.{Suits-decided}
 use Rattle.uicc_channels.proofs.SessionLemmas.{Suits-waiting, Suits-with_channel, master_is_there}
 use Rattle.uicc_channels.specs.Chan.{IsDirectoryIn, StandsAmong, at_isdr, at_master}
@@ -19,8 +22,7 @@ use Rattle.uicc_channels.specs.Delivery.{delivered}
 use Rattle.uicc_channels.specs.Session.{Suits, channel_at, open_channel, with_channel}
 use Rattle.uicc_channels.specs.declared.chan.Chan.{Chan}
 use Rattle.uicc_channels.specs.declared.session.Session.{Session}
-use Rattle.uicc_select.proofs.DirectoryLemmas.{directory_of_file}
-use Rattle.uicc_select.proofs.FoundLemmas.{AreApart, IfSome-at, IsAmong, found_among, found_passes}
+use Rattle.uicc_select.proofs.FoundLemmas.{IfSome-at, found_among}
 use Rattle.uicc_select.specs.Find.{found}
 use Rattle.uicc_select.specs.Select.{Selection, application_after, names_isdr, parameters_for, select_row, selection_of, selection_of_file, standing_at, waiting_if_some}
 use Rattle.uicc_select.specs.Status.{name_of_application, parameters_of_directory, status_row}
@@ -54,6 +56,10 @@ application_kind Application e = refl
 application_kind Transparent e = absurd (cc)
 application_kind Linear e = absurd (cc)
 application_kind Cyclic e = absurd (cc)
+
+-- an EF isn't the MF
+not_master : (kind : Kind) → holds_files kind ≡ false → kind ≢ Master
+not_master kind bare is = true≢false (subst (λ (kind : Kind). holds_files kind ≡ false) is bare)
 
 first_met : (one other : Bool) → (one && other) ≡ true → one ≡ true
 first_met true other e = refl
@@ -97,7 +103,7 @@ module _ (rows : List FileRow) (either : AreRows rows) (chan : Chan) (stands : S
   }
   by_kind app false among there kind = record {
     app = there;
-    dir = directory_of_file rows row (files_with rows row either among) among kind;
+    dir = directory_of_file rows row (files_with rows row either among) among (not_master row.head.kind kind);
     file = is_there (λ row. holds_files row.head.kind ≡ false) rows row among kind;
     pointer = inl refl;
   }

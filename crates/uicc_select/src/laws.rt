@@ -2,6 +2,8 @@ ghost use Rattle.std.specs.Prelude.{◌≡◌, Bool, List, [], ◌∷◌};
 ghost use Rattle.apdu_codec.specs.Command.{Apdu};
 ghost use Rattle.file_rows.specs.Content.{IsValid};
 ghost use Rattle.file_rows.specs.declared.content.Content.{Content};
+ghost use Rattle.uicc_channels.specs.Accepted.{IsDoneOrRefused};
+ghost use Rattle.uicc_channels.specs.ChannelLaws.{StaysOnChannel};
 ghost use Rattle.uicc_channels.specs.CommandRow.{decided};
 ghost use Rattle.uicc_channels.specs.Session.{Suits};
 ghost use Rattle.uicc_channels.specs.declared.session.Session.{Session};
@@ -29,4 +31,26 @@ pub fn sessions_suit_after_selection()
         → Suits session content.rows
         → Suits (decided session
         (status_row content.rows content.pins session c)).session content.rows }
+{}
+
+/// SELECT and STATUS leave every channel but their own as it is, and change neither what is
+/// verified, nor how far a REFRESH has come, nor content.
+pub fn selection_stays_on_its_channel()
+    ensures select { (content : Content) (session : Session) (isdr_here : Bool) (c : Apdu)
+        → StaysOnChannel session c.channel (decided session
+        (select_row content.rows content.pins session isdr_here c)) }
+    ensures status { (content : Content) (session : Session) (c : Apdu)
+        → StaysOnChannel session c.channel (decided session
+        (status_row content.rows content.pins session c)) }
+{}
+
+/// Where SELECT or STATUS is answered with a status word that doesn't accept it, that is the whole
+/// answer, and nothing changes.
+pub fn refused_selection_changes_nothing()
+    ensures select { (content : Content) (session : Session) (isdr_here : Bool) (c : Apdu)
+        → IsDoneOrRefused session (decided session
+        (select_row content.rows content.pins session isdr_here c)) }
+    ensures status { (content : Content) (session : Session) (c : Apdu)
+        → IsDoneOrRefused session (decided session
+        (status_row content.rows content.pins session c)) }
 {}

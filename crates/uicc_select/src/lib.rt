@@ -11,7 +11,10 @@ mod parameters;
 mod selection;
 mod status_command;
 
-pub use laws::{sessions_suit_after_selection, the_isdr_has_its_aid};
+pub use laws::{
+    refused_selection_changes_nothing, selection_stays_on_its_channel,
+    sessions_suit_after_selection, the_isdr_has_its_aid,
+};
 pub use naming::Target;
 pub use selection::{ISDR_AID, select};
 pub use status_command::status;

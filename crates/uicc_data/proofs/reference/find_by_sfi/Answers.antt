@@ -1,7 +1,7 @@
 use Rattle.std.proofs.Common.{◌≡◌, ℕ, List, ◌∙◌, subst}
 use Rattle.file_rows.specs.Find.{child_with_sfi}
+use Rattle.uicc_channels.proofs.AmongLemmas.{path_found}
 use Rattle.uicc_tree.specs.Files.{Gives, file_of, path_of, rows_of}
-use Rattle.uicc_data.proofs.ReferenceLemmas.{path_found}
 use Rattle.uicc_data.proofs.reference.find_by_sfi.Goals as goal
 
 pub returns : goal.returns
