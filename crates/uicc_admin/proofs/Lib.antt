@@ -1,0 +1,15 @@
+pub mod ClosedLemmas
+pub mod AdministrationLemmas
+pub mod CreateLemmas
+pub mod CreateRowLemmas
+pub mod DeleteLemmas
+pub mod DeleteRowLemmas
+pub mod NamedLemmas
+pub mod ResizeLemmas
+pub mod ResizeRowLemmas
+pub mod RowLemmas
+pub mod StateLemmas
+pub mod SuitsLemmas
+pub mod TemplateLemmas
+pub mod OthersLemmas
+pub mod RefusedLemmas

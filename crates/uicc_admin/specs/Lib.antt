@@ -1,0 +1,9 @@
+pub mod Administration
+pub mod Create
+pub mod Delete
+pub mod FileState
+pub mod FileWork
+pub mod NamedFile
+pub mod Pointers
+pub mod Resize
+pub mod Template

@@ -1,0 +1,26 @@
+//! File control parameters in the body of a command.
+ghost use Rattle.std.specs.Prelude.{◌≡◌};
+ghost use Rattle.uicc_admin.specs.Template.{fcp_in, fields_in};
+
+use ber_tlv::read_tlv;
+use fcp_codec::{Fcp, read_fcp};
+
+// What the fields of a template say.
+fn read_fields(value: &[u8]) -> Option<Fcp>
+    ensures { result ≡ fields_in value.now }
+{
+    match read_fcp(value) {
+        Ok(fcp) => Some(fcp),
+        Err(_) => None,
+    }
+}
+
+// The file control parameters in a body, where it is a well formed template `62` (ETSI TS 102 222).
+pub(crate) fn read_template(body: &[u8]) -> Option<Fcp>
+    ensures { result ≡ fcp_in body.now }
+{
+    match read_tlv(body) {
+        Ok((tlv, count)) if tlv.tag == 0x62 && count == body.len() => read_fields(tlv.value),
+        _ => None,
+    }
+}
