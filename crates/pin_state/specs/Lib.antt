@@ -1,3 +1,4 @@
 pub mod PinCommand
 pub mod PinOutcome
 pub mod SamePin
+pub mod Tries

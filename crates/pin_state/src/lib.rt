@@ -11,8 +11,8 @@ mod value;
 
 pub use decision::{PinDecision, change, disable, enable, unblock, verify};
 pub use laws::{
-    blocked_pins_stay_blocked, pins_stay_pins, same_rows_are_equal,
-    tries_rise_by_right_values_alone,
+    blocked_pins_stay_blocked, pins_stay_pins, refused_pin_commands_change_tries_alone,
+    same_rows_are_equal, tries_rise_by_right_values_alone,
 };
 
 #[cfg(test)]

@@ -339,5 +339,6 @@ fn the_laws_are_callable() {
     tries_rise_by_right_values_alone();
     blocked_pins_stay_blocked();
     pins_stay_pins();
+    refused_pin_commands_change_tries_alone();
     same_rows_are_equal();
 }

@@ -8,3 +8,5 @@ pub mod RunLemmas
 pub mod SampleLemmas
 pub mod StepLemmas
 pub mod TableLemmas
+pub mod StayLemmas
+pub mod RefusedLemmas

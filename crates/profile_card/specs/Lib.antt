@@ -6,3 +6,4 @@ pub mod PinCommands
 pub mod Sample
 pub mod Step
 pub mod Tables
+pub mod Refused

@@ -1,8 +1,9 @@
 -- The PIN commands of a card (ETSI TS 102 221, VERIFY PIN to UNBLOCK PIN).
-use Rattle.std.specs.Prelude.{ℕ, Bool, true, false, not, ◌==◌, ◌||◌, List, length, Option, Some, None, is_some, option_map}
+use Rattle.std.specs.Prelude.{ℕ, Bool, true, false, not, ◌==◌, ◌||◌, List, [], ◌∷◌, length, Option, Some, None, is_some, option_map}
 use Rattle.access_rules.specs.Met.{pin_for}
 use Rattle.apdu_codec.specs.Answer.{status_alone}
 use Rattle.apdu_codec.specs.Command.{Apdu}
+use Rattle.apdu_codec.specs.Ins.{is_one_of}
 use Rattle.apdu_codec.specs.declared.status.TheConstants.Sw.{DATA_NOT_FOUND, OK}
 use Rattle.file_rows.specs.declared.change.Change.TheVariants.{PinSet}
 use Rattle.file_rows.specs.declared.pin.PinRow.{PinRow}
@@ -34,6 +35,10 @@ asks_without_body Change = false
 asks_without_body Disable = false
 asks_without_body Enable = false
 asks_without_body Unblock = true
+
+-- VERIFY, CHANGE, DISABLE, ENABLE and UNBLOCK PIN
+abbrev pub is_pin_instruction : ℕ → Bool
+is_pin_instruction ins = is_one_of (0x20 ∷ 0x24 ∷ 0x26 ∷ 0x28 ∷ 0x2C ∷ []) ins
 
 -- what a PIN command comes to at a card by what it comes to at its PIN: the PIN is set where it
 -- changes

@@ -2,6 +2,7 @@ ghost use Rattle.std.specs.Prelude.{◌≡◌, ◌<◌, ◌==◌, false, [], Lis
 ghost use Rattle.apdu_codec.specs.Command.{Apdu, IsCommand, Spells, apdu_of};
 ghost use Rattle.file_rows.specs.Change.{Fits};
 ghost use Rattle.file_rows.specs.Content.{IsValid};
+ghost use Rattle.uicc_admin.specs.Administration.{IsAdministration, admin_row};
 ghost use Rattle.uicc_channels.specs.CommandOutcome.{outcome_of};
 ghost use Rattle.uicc_channels.specs.CommandRow.{decided};
 ghost use Rattle.uicc_channels.specs.Session.{IsOpen, Suits, fresh_session, open_channel};
@@ -13,7 +14,7 @@ ghost use Rattle.uicc_tree.specs.Change.{HasRoom};
 ghost use Rattle.uicc_tree.specs.Files.{rows_of};
 ghost use Rattle.profile_card.specs.Card.{MayFollow, allowed_at, isdr_here, outcome_at, settled};
 ghost use Rattle.profile_card.specs.CardState.{HasRoomFor, TakesRoom, card_of, content_of};
-ghost use Rattle.profile_card.specs.Commands.{IsKnownAt, decision};
+ghost use Rattle.profile_card.specs.Commands.{command_row, decision, instruction_row, is_for_isdr, is_known_at};
 ghost use Rattle.profile_card.specs.PinCommands.{pin_row};
 ghost use Rattle.profile_card.specs.Step.{Steps, silent};
 ghost use Rattle.profile_card.specs.Step.Event.{Bound, Command as CommandBytes, Power, Reset};
@@ -25,9 +26,11 @@ use crate::place::Place;
 use apdu_codec::{Command, Sw, ins};
 use case_table::{case_arms, ins_rows};
 use file_rows::{Change, Content, Mode, NoMemory, PinRow, copy_pins};
+use lsi_refresh::{announce, fetch, terminal_capability, terminal_profile, terminal_response};
 use std::alloc::Global;
 use std::marker::Model;
-use uicc_channels::{Decided, Guard, Session, fresh};
+use uicc_admin::admin_command;
+use uicc_channels::{Decided, Guard, Session, fresh, get_response, manage_channel};
 use uicc_data::data_command;
 use uicc_select::{select, status};
 use uicc_tree::Tree;
@@ -73,6 +76,42 @@ macro_rules! instruction {
     (0x2C, $class:tt, ($card:expr, $command:expr, $into:expr)) => {
         $card.pin_command(PinInstruction::Unblock, $command, $into)
     };
+    (0x70, $class:tt, ($card:expr, $command:expr, $into:expr)) => {
+        manage_channel(&$card.session, $command, $into)
+    };
+    (0xC0, $class:tt, ($card:expr, $command:expr, $into:expr)) => {
+        get_response(&$card.session, $command, $into)
+    };
+    (0xE0, $class:tt, ($card:expr, $command:expr, $into:expr)) => {
+        $card.administer($command, $into)
+    };
+    (0xE4, $class:tt, ($card:expr, $command:expr, $into:expr)) => {
+        $card.administer($command, $into)
+    };
+    (0xD4, $class:tt, ($card:expr, $command:expr, $into:expr)) => {
+        $card.administer($command, $into)
+    };
+    (0x44, $class:tt, ($card:expr, $command:expr, $into:expr)) => {
+        $card.administer($command, $into)
+    };
+    (0x04, $class:tt, ($card:expr, $command:expr, $into:expr)) => {
+        $card.administer($command, $into)
+    };
+    (0xE8, $class:tt, ($card:expr, $command:expr, $into:expr)) => {
+        $card.administer($command, $into)
+    };
+    (0x10, $class:tt, ($card:expr, $command:expr, $into:expr)) => {
+        terminal_profile(&$card.session, $command, $into)
+    };
+    (0xAA, $class:tt, ($card:expr, $command:expr, $into:expr)) => {
+        terminal_capability(&$card.session, $command, $into)
+    };
+    (0x12, $class:tt, ($card:expr, $command:expr, $into:expr)) => {
+        fetch(&$card.session, $command, $into)
+    };
+    (0x14, $class:tt, ($card:expr, $command:expr, $into:expr)) => {
+        terminal_response(&$card.session, $command, $into)
+    };
     ($ins:tt, $class:tt, ($card:expr, $command:expr, $into:expr)) => {
         $into.set_status(Sw::WRONG_INSTRUCTION)
     };
@@ -80,9 +119,17 @@ macro_rules! instruction {
 
 // Whether a channel on which the ISD-R is selected knows the instruction.
 fn is_for_isdr(ins: u8) -> bool
-    ensures { result ≡ (ins == 0xA4) }
+    ensures { result ≡ is_for_isdr ins }
 {
-    ins == ins::SELECT
+    matches!(
+        ins,
+        ins::SELECT
+            | ins::MANAGE_CHANNEL
+            | ins::TERMINAL_PROFILE
+            | ins::TERMINAL_CAPABILITY
+            | ins::FETCH
+            | ins::TERMINAL_RESPONSE
+    )
 }
 
 /// The card of one profile at a port, or of none: a blank card. It keeps that what its session
@@ -176,10 +223,13 @@ impl Card1 {
     /// What a command comes to: its answer, what it does to the session, and what it changes in
     /// the content. The card stays as it is; `settle` carries it out.
     ///
-    /// SELECT, STATUS, the commands on data from READ BINARY to INCREASE, and VERIFY PIN, CHANGE
-    /// PIN, DISABLE PIN, ENABLE PIN and UNBLOCK PIN (ETSI TS 102 221); any other instruction is
-    /// answered `6D00`, and so is each but SELECT where the ISD-R is selected on the channel. It
-    /// takes no memory, and copies no session.
+    /// SELECT, STATUS, the commands on data from READ BINARY to INCREASE, VERIFY PIN, CHANGE PIN,
+    /// DISABLE PIN, ENABLE PIN and UNBLOCK PIN, MANAGE CHANNEL, GET RESPONSE, CREATE FILE, DELETE
+    /// FILE, RESIZE FILE, ACTIVATE FILE, DEACTIVATE FILE and TERMINATE EF, TERMINAL PROFILE,
+    /// TERMINAL CAPABILITY, FETCH and TERMINAL RESPONSE (ETSI TS 102 221 and TS 102 222); any other
+    /// instruction is answered `6D00`. Where the ISD-R is selected on the channel, SELECT, MANAGE CHANNEL and the
+    /// last four are known alone. An answer that would end in `9000` ends in `910B` where a REFRESH
+    /// waits after the command. It takes no memory, and copies no session.
     pub fn decide(&self, command: &Command) -> Decided
         requires { IsCommand command.now }
         ensures decision { outcome_at (card_of self.now) result
@@ -199,6 +249,16 @@ impl Card1 {
             ≡ decision (card_of self.now) (apdu_of command.now) }
         ensures may_follow { MayFollow (card_of self.now)
             (outcome_at (card_of self.now) into.new) }
+    {
+        self.answer_where_open(command, into);
+        announce(&self.session, into);
+    }
+
+    // What a command comes to by its channel and its instruction.
+    fn answer_where_open(&self, command: &Command, into: &mut Decided)
+        requires { IsCommand command.now }
+        ensures { outcome_of self.now.session into.new ≡ decided self.now.session
+            (command_row (card_of self.now) (apdu_of command.now)) }
     {
         let Some(chan) = self.session.channel_at(command.channel) else {
             into.set_status(Sw::CHANNEL_NOT_SUPPORTED);
@@ -248,6 +308,17 @@ impl Card1 {
         data_command(&self.tree, self, &self.session, command, into);
     }
 
+    fn administer(&self, command: &Command, into: &mut Decided)
+        requires open { IsOpen self.now.session command.now.channel }
+        requires spelled { IsCommand command.now }
+        requires instruction { IsAdministration command.now.ins }
+        ensures { outcome_of self.now.session into.new ≡ decided self.now.session
+            (admin_row (rows_of self.now.tree) (allowed_at (card_of self.now)) self.now.session
+            (apdu_of command.now)) }
+    {
+        admin_command(&self.tree, self, &self.session, command, into);
+    }
+
     fn pin_command(&self, instruction: PinInstruction, command: &Command, into: &mut Decided)
         requires open { IsOpen self.now.session command.now.channel }
         requires spelled { IsCommand command.now }
@@ -261,10 +332,8 @@ impl Card1 {
     fn answer(&self, command: &Command, into: &mut Decided)
         requires spelled { IsCommand command.now }
         requires open { IsOpen self.now.session command.now.channel }
-        requires known { IsKnownAt
-            (open_channel self.now.session command.now.channel) command.now.ins }
-        ensures { outcome_of self.now.session into.new
-            ≡ decision (card_of self.now) (apdu_of command.now) }
+        ensures { outcome_of self.now.session into.new ≡ decided self.now.session
+            (instruction_row (card_of self.now) (apdu_of command.now)) }
     {
         ins_rows!(case_arms: command.ins, instruction(self, command, into),
             into.set_status(Sw::WRONG_INSTRUCTION))

@@ -1,13 +1,17 @@
-ghost use Rattle.std.specs.Prelude.{◌≡◌, ℕ, ◌<◌, ◌^◌, Bool, true, false, List, [], ◌∷◌, Option, Some};
+ghost use Rattle.std.specs.Prelude.{◌≡◌, ◌≢◌, ℕ, ◌<◌, ◌^◌, Bool, true, false, List, [], ◌∷◌, Option, Some};
 ghost use Rattle.apdu_codec.specs.Command.{Apdu};
 ghost use Rattle.apdu_codec.specs.Sw.{bytes_waiting, tries_left, wrong_le};
 ghost use Rattle.apdu_codec.specs.declared.answers.Answer.{Answer};
 ghost use Rattle.case_table.specs.CaseRows.{value_of};
+ghost use Rattle.uicc_channels.specs.Accepted.{IsDoneOrRefused, is_accepted};
+ghost use Rattle.uicc_channels.specs.ChannelLaws.{LeavesOthers};
 ghost use Rattle.uicc_channels.specs.CommandOutcome.{refused};
 ghost use Rattle.file_rows.specs.PinRow.{is_verified};
 ghost use Rattle.profile_card.specs.Card.{Card, IsSound};
 ghost use Rattle.profile_card.specs.Commands.{decision};
+ghost use Rattle.profile_card.specs.PinCommands.{is_pin_instruction};
 ghost use Rattle.profile_card.specs.Own.{is_common};
+ghost use Rattle.profile_card.specs.Refused.{ChangesTriesAlone};
 ghost use Rattle.profile_card.specs.Step.{Event, Outcome, Runs, Steps};
 ghost use Rattle.profile_card.specs.Step.Event.{Bound, Power, Reset};
 ghost use Rattle.profile_card.specs.Tables.{classes_of};
@@ -37,6 +41,23 @@ pub fn cards_stay_sound()
     ensures { (card : Card) (event : Event) (outcome : Outcome) → IsSound card
         → Steps card event outcome
         → IsSound outcome.card }
+{}
+
+/// A command that isn't accepted changes nothing but the tries left of a PIN and of its PUK, and
+/// which PINs are verified. One that isn't a PIN command is answered with its status word alone and
+/// changes nothing at all.
+pub fn refused_commands_change_nothing()
+    ensures tries { (card : Card) (c : Apdu) → is_accepted (decision card c).answer.sw ≡ false
+        → ChangesTriesAlone card (decision card c) }
+    ensures others { (card : Card) (c : Apdu) → is_pin_instruction c.ins ≡ false
+        → IsDoneOrRefused card.session (decision card c) }
+{}
+
+/// What a command does on one channel leaves every other channel as it is. MANAGE CHANNEL alone
+/// opens and closes another, and RESIZE FILE drops record pointers past a new end.
+pub fn commands_stay_on_their_channel()
+    ensures { (card : Card) (c : Apdu) → c.ins ≢ 0x70 → c.ins ≢ 0xD4
+        → LeavesOthers card.session c.channel (decision card c).session }
 {}
 
 /// What is verified ends with the session: after a reset of its port, a power cycle and a new port

@@ -19,6 +19,7 @@ use std::test::Fail;
 use uicc_channels::{Decided, SessionChange, fresh};
 
 mod access;
+mod sessions;
 
 const PORT_1_OF_A1: Place = Place {
     port: 1,
@@ -176,6 +177,30 @@ fn make_pin(number: u8, key: u8) -> PinRow {
     }
 }
 
+// Reading is always allowed; with key 01.
+const RULES: &[u8] = b"\x80\x01\x01\x90\x00\xFF\xFF\xFF\xFF\xFF\xFF\
+    \x80\x01\x01\xA4\x06\x83\x01\x01\x95\x01\x08";
+
+const IMSI: &[u8] = b"\x08\x09\x10\x10\x00\x00\x00\x00\x10";
+
+// EF IMSI in the application, which is read with key 01.
+fn imsi(alloc: Global) -> Result<FileRow, NoMemory> {
+    let mut file = make_row(
+        alloc,
+        &[0x7FD0, 0x6F07],
+        Kind::Transparent,
+        Life::Active,
+        b"",
+        IMSI,
+    )?;
+    file.head.sfi = 7;
+    file.head.rule = Some(Rule {
+        file: 0x2F06,
+        row: 2,
+    });
+    Ok(file)
+}
+
 // An MF with an EF ARR and three EFs, of which one is deactivated and one terminated, and an
 // application that has an EF too.
 fn content_with_application(alloc: Global) -> Result<Content, NoMemory> {
@@ -183,16 +208,8 @@ fn content_with_application(alloc: Global) -> Result<Content, NoMemory> {
     let number = b"\x98\x94\x00\x00\x00\x00\x00\x00\x00\xF2";
     let mut iccid = make_row(alloc, &[0x2FE2], ef, Life::Active, b"", number)?;
     iccid.head.sfi = 2;
-    let read_always = b"\x80\x01\x01\x90\x00";
-    let mut rules = make_row(
-        alloc,
-        &[0x2F06],
-        Kind::Linear,
-        Life::Active,
-        b"",
-        read_always,
-    )?;
-    rules.head.record_len = 5;
+    let mut rules = make_row(alloc, &[0x2F06], Kind::Linear, Life::Active, b"", RULES)?;
+    rules.head.record_len = 11;
     let rows = [
         make_row(alloc, &[], Kind::Master, Life::Active, b"", b"")?,
         rules,
@@ -207,9 +224,11 @@ fn content_with_application(alloc: Global) -> Result<Content, NoMemory> {
             USIM_NAME,
             b"",
         )?,
-        make_row(alloc, &[0x7FD0, 0x6F07], ef, Life::Active, b"", &[0xFF; 9])?,
+        imsi(alloc)?,
     ];
-    let pins = [make_pin(1, 0x01), make_pin(2, 0x0A)];
+    let mut first = make_pin(1, 0x01);
+    first.value = *b"1234\xFF\xFF\xFF\xFF";
+    let pins = [first, make_pin(2, 0x0A)];
     Ok(Content {
         rows: LongList::from(Vec::from_array(alloc, rows)?),
         pins: LongList::from(Vec::from_array(alloc, pins)?),
@@ -237,12 +256,13 @@ fn a_modem_finds_the_application(rt: HostRuntime) -> Result<(), Fail> {
         return Err(Fail::from("no card may hold this content"));
     }
     let mut card = start(rt.alloc(), &content)?;
-    let rows: [Case; 13] = [
+    let rows: [Case; 17] = [
         (
             b"\x00\xA4\x00\x04\x02\x3F\x00\x00",
             MASTER_PARAMETERS,
             0x9000,
         ),
+        (b"\x80\xAA\x00\x00\x05\xA9\x03\x83\x01\x07", b"", 0x9000),
         (b"\x80\xF2\x00\x01\x00", b"", 0x6A88),
         (
             b"\x00\xA4\x00\x04\x02\x2F\xE2\x00",
@@ -264,6 +284,9 @@ fn a_modem_finds_the_application(rt: HostRuntime) -> Result<(), Fail> {
             USIM_PARAMETERS,
             0x9000,
         ),
+        (b"\x00\xB0\x87\x00\x09", b"", 0x6982),
+        (b"\x00\x20\x00\x01\x081234\xFF\xFF\xFF\xFF", b"", 0x9000),
+        (b"\x00\xB0\x87\x00\x09", IMSI, 0x9000),
         (b"\x80\xF2\x00\x00\x00", USIM_PARAMETERS, 0x9000),
         (
             b"\x80\xF2\x00\x01\x12",
@@ -348,8 +371,10 @@ fn memory_is_reserved_and_a_change_made(rt: HostRuntime) -> Result<(), Fail> {
 fn the_laws_are_callable() {
     cards_stay_sound();
     commands_have_one_run();
+    commands_stay_on_their_channel();
     common_commands_are_unknown_to_the_card();
     events_have_one_outcome();
+    refused_commands_change_nothing();
     the_table_of_instructions_has_their_classes();
     the_table_of_status_words_has_each();
     verification_ends_with_the_session();
