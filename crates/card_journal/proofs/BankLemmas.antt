@@ -23,6 +23,7 @@ pub reads_none : (s : FlashState) → IsFlash card_blocks s → OnlyReads s s
 reads_none s lawful = record {
   time = GoesOn-refl s;
   bytes = refl;
+  may_leave = λ some content. (λ left. left, λ left. left);
   images = λ says image left. (lawful.moments says).only_now image left;
   programmed = refl;
   erased = refl;
@@ -32,6 +33,10 @@ pub reads_then : (a b c : FlashState) → IsFlash card_blocks c → OnlyReads a 
 reads_then a b c lawful p q = record {
   time = GoesOn-trans card_blocks a b c lawful p.time q.time;
   bytes = q.bytes ∙ p.bytes;
+  may_leave = λ some content.
+      let first = p.may_leave some content in
+      let second = q.may_leave (p.time.bytes_known.0 some) content in
+      (λ left. first.0 (second.0 left), λ left. second.1 (first.1 left));
   images = LeavesOnly-trans a b c (λ image. a.bytes ≡ Some image) p.time q.time p.images (λ says image left. sym p.bytes ∙ q.images says image left);
   programmed = q.programmed ∙ p.programmed;
   erased = q.erased ∙ p.erased;

@@ -65,7 +65,7 @@ pub fold_more : (held : Durable) (entries : List Record) (entry : Record) → fo
 fold_more held [] entry = refl
 fold_more held (its ∷ entries) entry = fold_more (apply held its) entries entry
 
-left_more : (entries : List Record) (held : Durable) (entry : Record) → Leave entries held → (MakesCard entry → ⊥) → FitsCard held entry
+pub left_more : (entries : List Record) (held : Durable) (entry : Record) → Leave entries held → (MakesCard entry → ⊥) → FitsCard held entry
     → Leave (entries ++ entry ∷ []) (apply held entry)
 left_more [] held entry left old fits = absurd left
 left_more (first ∷ entries) held entry left old fits = (

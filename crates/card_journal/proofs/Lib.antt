@@ -1,5 +1,11 @@
+pub mod AppendLemmas
 pub mod BankLemmas
 pub mod BoundLemmas
 pub mod CopyLemmas
+pub mod CopyRowLemmas
+pub mod EraseLemmas
 pub mod ImageLemmas
+pub mod OpenLemmas
 pub mod ReadLemmas
+pub mod StoreLemmas
+pub mod SwitchLemmas

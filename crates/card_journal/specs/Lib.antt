@@ -1,6 +1,13 @@
+pub mod CommitFault
 pub mod Copy
+pub mod CopyBody
 pub mod Image
 pub mod Next
+pub mod NotOpened
+pub mod OpenFault
 pub mod Read
 pub mod RecordBody
 pub mod RecordSizes
+pub mod Store
+pub mod StoreState
+pub mod Stored

@@ -1,5 +1,5 @@
 -- What is read of a bank, row by row.
-use Rattle.std.specs.Prelude.{ℕ, ◌≡◌, ◌-◌, List, length, Option, Some, None}
+use Rattle.std.specs.Prelude.{ℕ, ◌≡◌, ◌↔◌, ◌-◌, List, length, Option, Some, None, IsSome}
 use Rattle.flash_pages.specs.Bank.{bank_bytes, end_of, start_of}
 use Rattle.flash_pages.specs.Bytes.{part}
 use Rattle.flash_pages.specs.Flash.{FlashState, GoesOn, LeavesOnly}
@@ -37,10 +37,13 @@ IsRowAt bank image at (Some row) =
     (Open place (length row.bytes.items) row.next)
     × (row.bytes.items ≡ part place (length row.bytes.items) image)
 
--- nothing but reads: each image since then is what reads returned, and return
+-- nothing but reads: each image since then is what reads returned, and return, and a restart may
+-- leave what it might
 pub record OnlyReads (old new : FlashState) : Type 0 where
   pub time : GoesOn old new
   pub bytes : new.bytes ≡ old.bytes
+  pub may_leave : IsSome old.bytes → (content : List ℕ)
+      → new.may_leave content ↔ old.may_leave content
   pub images : LeavesOnly old new (λ image. old.bytes ≡ Some image)
   pub programmed : new.programmed ≡ old.programmed
   pub erased : new.erased ≡ old.erased

@@ -1,6 +1,6 @@
 ghost use Rattle.std.specs.Prelude.{◌≡◌, ◌<◌, ◌^◌, length};
 ghost use Rattle.card_journal.specs.RecordSizes.{HasSizes-prop};
-ghost use Rattle.record_codec.specs.Sizes.{HasSizes};
+ghost use Rattle.record_codec.specs.Sizes.{Codes, HasCoding, HasSizes};
 ghost use Rattle.record_codec.specs.Spelling.{spelling};
 
 use flash_pages::Body;
@@ -21,8 +21,9 @@ impl<'a> RecordBody<'a> {
     /// The body of a row that holds this record.
     pub fn new(entry: &'a Record) -> Self
         requires sizes { HasSizes entry.now }
-        requires few { length (spelling entry.now) < 2 ^ 32 }
-        ensures { coding_of result ≡ spelling entry.now }
+        requires few { HasCoding entry.now → length (spelling entry.now) < 2 ^ 32 }
+        ensures coding { coding_of result ≡ spelling entry.now }
+        ensures codes { Codes (spelling entry.now) entry.now }
     {
         RecordBody {
             entry,

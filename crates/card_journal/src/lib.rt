@@ -2,19 +2,33 @@
 //! banks.
 #![tactic(auto)]
 
+mod append;
+mod blank;
 mod body;
+mod commit_fault;
+mod copy;
+mod copy_body;
+mod erase;
 mod fault;
 mod laws;
 mod next;
+mod open;
+mod open_fault;
 mod reading;
 mod row;
+mod store;
+mod switch;
 
 pub use body::RecordBody;
+pub use commit_fault::CommitFault;
+pub use copy_body::CopyBody;
 pub use fault::ReadFault;
 pub use laws::{
     copies_leave_room, copies_leave_the_card, images_hold_one_card, records_are_appended,
 };
+pub use open_fault::OpenFault;
 pub use reading::{Found, read_bank};
+pub use store::BankStore;
 
 #[cfg(test)]
 mod tests;

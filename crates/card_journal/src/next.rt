@@ -9,7 +9,7 @@ use crate::ReadFault;
 use record_codec::{Durable, Record};
 use std::alloc::Global;
 
-fn makes_card(entry: &Record) -> bool
+pub(crate) fn makes_card(entry: &Record) -> bool
     ensures { IsTrue result ↔ MakesCard entry.now }
 {
     match entry {

@@ -99,6 +99,7 @@ pub fn read_bank<F: Flash>(alloc: Global, flash: &mut F, bank: Bank) -> Result<F
     ensures found { IfOk result (λ found. IfSome (F.state flash.old).bytes
         (λ image. BankHolds bank image found.held found.end)) }
     ensures valid { IfOk result (λ found. IsDurable found.held) }
+    ensures place { IfOk result (λ found. IsPlaceIn bank found.end) }
     ensures card { IsErrOf result ReadFault.NotACard → IfSome (F.state flash.old).bytes
         (λ image. (held : Durable) (end : ℕ) → ¬ BankHolds bank image held end) }
     ensures reads { OnlyReads (F.state flash.old) (F.state flash.new) }

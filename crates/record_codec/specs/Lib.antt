@@ -3,6 +3,7 @@ pub mod Begin
 pub mod Behind
 pub mod Bind
 pub mod Content
+pub mod CopyRecord
 pub mod Fields
 pub mod FitsCard
 pub mod Returns

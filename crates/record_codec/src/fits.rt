@@ -3,7 +3,7 @@ ghost use Rattle.std.specs.Prelude.{◌≡◌, ◌≢◌, ◌<◌, ◌↔◌, No
 ghost use Rattle.plain_lists.specs.EachTwo.{EachTwo};
 ghost use Rattle.record_codec.specs.Content.{MayChange};
 ghost use Rattle.record_codec.specs.FitsCard.{FitsCard};
-ghost use Rattle.record_codec.specs.Heads.{IsHeld, content_at};
+ghost use Rattle.record_codec.specs.Heads.{IsHeld, content_at, held_content};
 ghost use Rattle.record_codec.specs.IsDurable.{IsDurable};
 ghost use Rattle.record_codec.specs.Takes.{TakesContent};
 
@@ -42,6 +42,7 @@ pub fn content_of<'a>(
     ensures found { IfSome result (λ content.
         content_at number profiles.now contents.now ≡ Some content.now) }
     ensures none { IfNone result (content_at number profiles.now contents.now ≡ None) }
+    ensures unheld { IfNone result (¬ IsHeld number profiles.now) }
 {
     match place_of(number, profiles) {
         Some(place) => Some(content_in(contents, place)),
@@ -50,6 +51,17 @@ pub fn content_of<'a>(
 }
 
 impl Durable {
+    /// The content of the profile of that number, or none where no such profile is held.
+    pub fn content(&self, profile: u16) -> Option<&Content>
+        requires { IsDurable self.now }
+        ensures found { IfSome result (λ content.
+            held_content profile self.now ≡ Some content.now) }
+        ensures none { IfNone result (¬ IsHeld profile self.now.heads.profiles) }
+    {
+        let profiles = self.heads.profiles.as_slice();
+        content_of(profile, profiles, self.contents.as_slice())
+    }
+
     fn may_change(&self, profile: u16, change: &Change) -> bool
         requires { IsDurable self.now }
         ensures { IsTrue result ↔ MayChange self.now profile change.now }

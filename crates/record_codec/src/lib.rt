@@ -4,6 +4,8 @@
 mod apply;
 mod begin;
 mod content_change;
+mod copy_record;
+mod copying;
 mod counts;
 mod durable;
 mod effect;
@@ -27,6 +29,8 @@ mod takes;
 mod window;
 mod writing;
 
+pub use copy_record::CopyRecord;
+pub use copying::{copy_record_len, put_copy_record};
 pub use durable::{Durable, Heads, ProfileList};
 pub use fault::RecordFault;
 pub use laws::{

@@ -9,8 +9,8 @@ ghost use Rattle.record_codec.specs.Window.{Puts};
 use crate::put::{put_file, put_mode, put_note, put_numbers, put_pin, put_profile_head, put_text};
 use crate::put_change::put_change;
 use crate::window::{Place, put, put_byte, put_flag, put_number2, put_number4, put_number8};
-use crate::{Label, Numbers, Profile, Record};
-use file_rows::{Change, FileRow, PinRow};
+use crate::{Label, Numbers, ProfileHead, Record};
+use file_rows::{Change, Content, FileRow, PinRow};
 use notify_list::Note;
 use plain_lists::LongList;
 use port_table::PortMode;
@@ -43,13 +43,13 @@ fn put_files(rows: &[FileRow], place: &mut Place, out: &mut [u8])
     }
 }
 
-fn put_note_list(notes: &LongList<Note>, place: &mut Place, out: &mut [u8])
+fn put_note_list(notes: &[Note], place: &mut Place, out: &mut [u8])
     requires { length notes.now ≤ 65535 }
     ensures puts { Puts (list note notes.now) place.old out.old place.new out.new }
     ensures sizes { IsList 65535 IsNote notes.now }
 {
     put_number2(notes.len() as u16, place, out);
-    put_notes(notes.as_slice(), place, out);
+    put_notes(notes, place, out);
 }
 
 fn put_pin_list(pins: &LongList<PinRow>, place: &mut Place, out: &mut [u8])
@@ -119,7 +119,7 @@ fn put_card(how: PortMode, ports: u8, eid: &[u8; 16], place: &mut Place, out: &m
 fn put_card_notes(
     next_number: u32,
     next_note: u64,
-    notes: &LongList<Note>,
+    notes: &[Note],
     place: &mut Place,
     out: &mut [u8],
 )
@@ -133,31 +133,32 @@ fn put_card_notes(
     put_note_list(notes, place, out);
 }
 
-fn put_profile(
+pub(crate) fn put_profile(
     installation: bool,
-    profile: &Profile,
+    head: &ProfileHead,
+    content: &Content,
     port: Option<u8>,
     place: &mut Place,
     out: &mut [u8],
 )
-    requires files { length profile.now.content.rows ≤ 65535 }
-    requires pins { length profile.now.content.pins ≤ 65535 }
+    requires files { length content.now.rows ≤ 65535 }
+    requires pins { length content.now.pins ≤ 65535 }
     requires bodies { AllByRecursion
-        (λ row. length row.body ≡ row.head.size) profile.now.content.rows }
-    ensures puts { Puts (byte 2 & flag installation & profile_head profile.now.head
+        (λ row. length row.body ≡ row.head.size) content.now.rows }
+    ensures puts { Puts (byte 2 & flag installation & profile_head head.now
         & option byte port
-        & list file profile.now.content.rows & list pin profile.now.content.pins)
+        & list file content.now.rows & list pin content.now.pins)
         place.old out.old place.new out.new }
-    ensures sizes { IsProfileHead profile.now.head × IfSome port IsByte
-        × IsList 65535 HasFileSizes profile.now.content.rows
-        × IsList 65535 HasPinSizes profile.now.content.pins }
+    ensures sizes { IsProfileHead head.now × IfSome port IsByte
+        × IsList 65535 HasFileSizes content.now.rows
+        × IsList 65535 HasPinSizes content.now.pins }
 {
     put_byte(2, place, out);
     put_flag(installation, place, out);
-    put_profile_head(&profile.head, place, out);
+    put_profile_head(head, place, out);
     put_port_option(port, place, out);
-    put_file_list(&profile.content.rows, place, out);
-    put_pin_list(&profile.content.pins, place, out);
+    put_file_list(&content.rows, place, out);
+    put_pin_list(&content.pins, place, out);
 }
 
 fn put_content(profile: u16, its: &Change, place: &mut Place, out: &mut [u8])
@@ -215,13 +216,13 @@ fn put_note_gone(number: u32, place: &mut Place, out: &mut [u8])
     put_number4(number, place, out);
 }
 
-fn put_put_card(
+pub(crate) fn put_put_card(
     how: PortMode,
     ports: u8,
     eid: &[u8; 16],
     next_number: u32,
     next_note: u64,
-    notes: &LongList<Note>,
+    notes: &[Note],
     place: &mut Place,
     out: &mut [u8],
 )
@@ -255,7 +256,7 @@ fn put_entry(entry: &Record, place: &mut Place, out: &mut [u8])
             eid,
             *next_number,
             *next_note,
-            notes,
+            notes.as_slice(),
             place,
             out,
         ),
@@ -263,7 +264,17 @@ fn put_entry(entry: &Record, place: &mut Place, out: &mut [u8])
             installation,
             profile,
             port,
-        } => put_profile(*installation, profile.get(), *port, place, out),
+        } => {
+            let profile = profile.get();
+            put_profile(
+                *installation,
+                &profile.head,
+                &profile.content,
+                *port,
+                place,
+                out,
+            );
+        }
         Record::Content { profile, change } => put_content(*profile, change, place, out),
         Record::Bind {
             profile,
@@ -280,7 +291,7 @@ fn put_entry(entry: &Record, place: &mut Place, out: &mut [u8])
 /// The number of bytes of a record's coding. It takes no memory.
 pub fn record_len(entry: &Record) -> u32
     requires sizes { HasSizes entry.now }
-    requires few { length (spelling entry.now) < 2 ^ 32 }
+    requires few { HasCoding entry.now → length (spelling entry.now) < 2 ^ 32 }
     ensures len { result ≡ length (spelling entry.now) }
     ensures codes { Codes (spelling entry.now) entry.now }
 {

@@ -11,5 +11,5 @@ returns-in-PutProfile-clause-sizes c =
       tt,
       subst
           (λ (its : Profile). IsProfileHead its.head × (IfSome c.in-PutProfile.port IsByte × (IsList 65535 HasFileSizes its.content.rows × IsList 65535 HasPinSizes its.content.pins)))
-          c.get.ensures (sizes.0, (sizes.1, (sizes.2, sizes.3))),
+          c.get-profile.ensures (sizes.0, (sizes.1, (sizes.2, sizes.3))),
     )

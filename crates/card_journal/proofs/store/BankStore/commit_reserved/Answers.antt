@@ -1,0 +1,36 @@
+use Rattle.std.proofs.Common.{sym, ◌∙◌, subst}
+use Rattle.card_journal.proofs.StoreLemmas.{commits_failed, commits_row}
+use Rattle.card_journal.specs.Store.{store_of}
+use Rattle.card_journal.specs.StoreState.{MayCommit}
+use Rattle.record_codec.specs.Room.{IsRoomFor}
+use Rattle.record_codec.specs.declared.durable.Durable.{Durable}
+use Rattle.card_journal.proofs.store.BankStore.commit_reserved.Goals as goal
+
+pub append-requires : goal.append-requires
+append-requires g c =
+    let same = sym c.make_room.ensures.held in
+    record {
+      usable = c.make_room.ensures.usable;
+      repaired = c.in_ok-kept.ensures.repaired;
+      takes = subst (λ (d : Durable). MayCommit d c.args.entry.now) same c.requires.takes;
+      room = subst (λ (d : Durable). IsRoomFor d c.args.entry.now c.args.room) same c.requires.room;
+      copied = c.in_ok-kept.ensures.copied ∙ c.requires.copied;
+      fits = c.in_ok-kept.ensures.room;
+    }
+
+pub returns-in_err-kept-clause-atomic : goal.returns-in_err-kept-clause-atomic
+returns-in_err-kept-clause-atomic g c = λ kept.
+    commits_failed (store_of g.F.Flash.state c.args.self.now) (store_of g.F.Flash.state c.make_room.new.self) c.args.entry.now
+    (c.make_room.ensures.throughout kept) (c.make_room.ensures.kept kept)
+
+pub returns-in-Ok-clause-atomic : goal.returns-in-Ok-clause-atomic
+returns-in-Ok-clause-atomic g c = λ kept.
+    let mid = c.make_room.ensures.kept kept in
+    commits_row (store_of g.F.Flash.state c.args.self.now) (store_of g.F.Flash.state c.make_room.new.self) (store_of g.F.Flash.state c.append.new.self)
+    c.args.entry.now c.make_room.ensures.held (c.make_room.ensures.throughout kept) (c.append.ensures.throughout mid) (c.append.ensures.kept mid)
+
+pub returns-in-Err-clause-atomic : goal.returns-in-Err-clause-atomic
+returns-in-Err-clause-atomic g c = λ kept.
+    let mid = c.make_room.ensures.kept kept in
+    commits_row (store_of g.F.Flash.state c.args.self.now) (store_of g.F.Flash.state c.make_room.new.self) (store_of g.F.Flash.state c.append.new.self)
+    c.args.entry.now c.make_room.ensures.held (c.make_room.ensures.throughout kept) (c.append.ensures.throughout mid) (c.append.ensures.kept mid)

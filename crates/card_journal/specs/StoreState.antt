@@ -1,0 +1,59 @@
+-- What contracts see of a store.
+use Rattle.std.specs.Prelude.{ℕ, ◌≡◌, ◌⊎◌, ◌<◌, ◌≤◌, ◌+◌, ◌-◌, length, Option, Some, None, IfSome}
+use Rattle.flash_pages.specs.Bank.{IsPlaceIn, end_of}
+use Rattle.flash_pages.specs.Bytes.{IsErased}
+use Rattle.flash_pages.specs.Flash.{FlashState, LeavesOnly, MayLeaveOnly}
+use Rattle.card_journal.specs.Image.{HoldsCard, MakesCard, bank_of}
+use Rattle.card_journal.specs.Stored.{HoldsWith, IsStored}
+use Rattle.record_codec.specs.Apply.{apply}
+use Rattle.record_codec.specs.FitsCard.{FitsCard}
+use Rattle.record_codec.specs.IsDurable.{IsDurable}
+use Rattle.record_codec.specs.Spelling.{spelling}
+use Rattle.record_codec.specs.declared.durable.Durable.{Durable}
+use Rattle.record_codec.specs.declared.record.Record.{Record}
+
+pub record StoreState : Type 1 where
+  -- what the card holds
+  pub held : Durable
+  -- the record whose commit failed, as long as that isn't repaired
+  pub unrepaired : Option Record
+  pub flash : FlashState
+  -- the live bank, and the place behind its open rows, where no record is unrepaired
+  pub live : ℕ
+  pub end : ℕ
+
+-- What a call needs, so that it programs erased bytes alone: what is held is what a card may hold,
+-- and where no record is unrepaired the live bank reads FF behind its open rows.
+pub record IsUsable (store : StoreState) : Type 0 where
+  pub valid : IsDurable store.held
+  pub bank : store.live < 2
+  pub place : IsPlaceIn (bank_of store.live) store.end
+  pub erased : store.unrepaired ≡ None → IfSome store.flash.bytes
+      (IsErased store.end (end_of (bank_of store.live) - store.end))
+
+-- The flash keeps what the store holds: it holds that, in the live bank, and so does each content
+-- that a restart may leave. Where a record is unrepaired, each of these holds that, or that after
+-- the record.
+abbrev pub IsKept : FlashState → Durable → Option Record → ℕ → ℕ → Type 0
+IsKept flash held None live end = IsStored flash held live end
+IsKept flash held (Some entry) live end = MayLeaveOnly flash (HoldsWith held (Some entry))
+
+abbrev pub KeepsCard : StoreState → Type 0
+KeepsCard store = IsKept store.flash store.held store.unrepaired store.live store.end
+
+-- a commit takes the record: it fits what is held, and makes no new card
+pub record MayCommit (held : Durable) (entry : Record) : Type 0 where
+  pub fits : FitsCard held entry
+  pub later : ¬ MakesCard entry
+
+-- the row of the record has room behind the open rows of the live bank
+abbrev pub HasRoom : StoreState → Record → Type 0
+HasRoom store entry = store.end + 5 + length (spelling entry) ≤ end_of (bank_of store.live)
+
+-- A commit of a record: at each moment since it began the flash holds what was held, or that after
+-- the record that was unrepaired, or after this one. From its end on the flash keeps what the store
+-- then holds.
+pub record Commits (old new : StoreState) (entry : Record) : Type 0 where
+  pub images : LeavesOnly old.flash new.flash
+      (λ image. HoldsWith old.held old.unrepaired image ⊎ HoldsCard image (apply old.held entry))
+  pub keeps : KeepsCard new

@@ -1,0 +1,121 @@
+// What a flash holds, read when a store is opened.
+ghost use Rattle.std.specs.Prelude.{◌≡◌, ◌↔◌, ◌<◌, ◌-◌, IfOk, IfSome, IsErrOf, IsTrue};
+ghost use Rattle.port_io.specs.Faults.{OnlyWhereRose};
+ghost use Rattle.card_journal.specs.Image.{HoldsCard, bank_of};
+ghost use Rattle.card_journal.specs.NotOpened.{fault_of};
+ghost use Rattle.card_journal.specs.Read.{OnlyReads};
+ghost use Rattle.card_journal.specs.Stored.{EndsClean, IsStored};
+ghost use Rattle.flash_pages.specs.Bank.{IsPlaceIn, end_of};
+ghost use Rattle.flash_pages.specs.Bytes.{IsErased};
+ghost use Rattle.flash_pages.specs.Flash.{GoesOn, IsSettled, MayLeaveOnly, Throughout};
+ghost use Rattle.record_codec.specs.IsDurable.{IsDurable};
+ghost use Rattle.record_codec.specs.declared.durable.Durable.{Durable};
+
+use crate::append::bank_of;
+use crate::blank::is_erased;
+use crate::reading::read_bank;
+use crate::switch::{SwitchFault, switch};
+use crate::{OpenFault, ReadFault};
+use flash_pages::{BLOCK_LEN, Flash, read_switch};
+use record_codec::Durable;
+use std::alloc::Global;
+
+/// A card that was read from a flash: the live bank, the place behind its open rows, and whether
+/// the bank reads FF from there on.
+#[derive(Debug, Drop)]
+pub(crate) struct Opened {
+    pub held: Durable,
+    pub live: u8,
+    pub end: u32,
+    pub is_clean: bool,
+}
+
+/// Reads the card that a flash holds. It returns NotACard exactly where it holds none.
+pub(crate) fn read_card<F: Flash>(alloc: Global, flash: &mut F) -> Result<Opened, ReadFault>
+    ensures holds { IfOk result (λ opened. IfSome (F.state flash.old).bytes
+        (λ image. HoldsCard image opened.held)) }
+    ensures clean { IfOk result (λ opened. IfSome (F.state flash.old).bytes
+        (λ image. IsTrue opened.is_clean
+        ↔ EndsClean opened.held opened.live opened.end image)) }
+    ensures valid { IfOk result (λ opened. IsDurable opened.held) }
+    ensures bank { IfOk result (λ opened. opened.live < 2) }
+    ensures place { IfOk result (λ opened. IsPlaceIn (bank_of opened.live) opened.end) }
+    ensures card { IsErrOf result ReadFault.NotACard → IfSome (F.state flash.old).bytes
+        (λ image. (held : Durable) → ¬ HoldsCard image held) }
+    ensures reads { OnlyReads (F.state flash.old) (F.state flash.new) }
+    ensures cause { OnlyWhereRose (IsErrOf result ReadFault.Flash) (F.state flash.old).faults
+        (F.state flash.new).faults }
+{
+    let live = read_switch(flash, 0)?.live;
+    let bank = bank_of(live);
+    let found = read_bank(alloc, flash, bank)?;
+    let is_clean = is_erased(flash, found.end, BLOCK_LEN * (bank.first + bank.blocks))?;
+    Ok(Opened {
+        held: found.held,
+        live,
+        end: found.end,
+        is_clean,
+    })
+}
+
+/// Why no card was opened.
+#[derive(Clone, Copy, Debug, PartialEq, Eq)]
+pub(crate) enum NotOpened {
+    Read(ReadFault),
+    Worn,
+}
+
+impl NotOpened {
+    /// The fault that is reported, with the flash's counts of faults before and after.
+    pub(crate) fn into_fault(self, before: u64, after: u64) -> OpenFault
+        ensures { result ≡ fault_of before after self }
+    {
+        match self {
+            NotOpened::Read(ReadFault::Flash) => OpenFault::Flash { before, after },
+            NotOpened::Read(ReadFault::NotACard) => OpenFault::NotACard,
+            NotOpened::Read(ReadFault::NoMemory) => OpenFault::NoMemory,
+            NotOpened::Worn => OpenFault::Worn,
+        }
+    }
+}
+
+/// Reads the card that a flash holds, and switches to the idle bank where a byte behind its rows
+/// isn't FF.
+pub(crate) fn open_card<F: Flash>(alloc: Global, flash: &mut F) -> Result<Opened, NotOpened>
+    ensures stored { IfOk result (λ opened.
+        IsSettled (F.state flash.old)
+        → IsStored (F.state flash.new) opened.held opened.live opened.end) }
+    ensures erased { IfOk result (λ opened. IfSome (F.state flash.new).bytes
+        (IsErased opened.end (end_of (bank_of opened.live) - opened.end))) }
+    ensures holds { IfOk result (λ opened. IfSome (F.state flash.old).bytes
+        (λ image. HoldsCard image opened.held)) }
+    ensures valid { IfOk result (λ opened. IsDurable opened.held) }
+    ensures bank { IfOk result (λ opened. opened.live < 2) }
+    ensures place { IfOk result (λ opened. IsPlaceIn (bank_of opened.live) opened.end) }
+    ensures card { IsErrOf result (NotOpened.Read ReadFault.NotACard)
+        → IfSome (F.state flash.old).bytes (λ image. (held : Durable) → ¬ HoldsCard image held) }
+    ensures throughout { (held : Durable)
+        → MayLeaveOnly (F.state flash.old) (λ content. HoldsCard content held)
+        → Throughout (λ content. HoldsCard content held) (F.state flash.old) (F.state flash.new) }
+    ensures time { GoesOn (F.state flash.old) (F.state flash.new) }
+    ensures cause { OnlyWhereRose (IsErrOf result (NotOpened.Read ReadFault.Flash))
+        (F.state flash.old).faults (F.state flash.new).faults }
+{
+    let opened = match read_card(alloc, flash) {
+        Ok(opened) => opened,
+        Err(fault) => return Err(NotOpened::Read(fault)),
+    };
+    if opened.is_clean {
+        return Ok(opened);
+    }
+    match switch(flash, &opened.held) {
+        Ok(live) => Ok(Opened {
+            held: opened.held,
+            live: live.bank,
+            end: live.end,
+            is_clean: true,
+        }),
+        Err(SwitchFault::Flash) => Err(NotOpened::Read(ReadFault::Flash)),
+        Err(SwitchFault::Worn) => Err(NotOpened::Worn),
+    }
+}
