@@ -1,5 +1,5 @@
 -- A bank of a flash, read row by row.
-use Rattle.std.proofs.Common.{◌≡◌, ℕ, ◌+◌, ◌-◌, ◌*◌, ◌^◌, ◌<◌, ◌≤◌, List, [], ◌∷◌, ◌++◌, length, drop, Option, Some, None, IfSome, refl, sym, ◌∙◌, subst, arith}
+use Rattle.std.proofs.Common.{◌≡◌, ℕ, ◌-◌, ◌*◌, ◌^◌, ◌<◌, ◌≤◌, List, [], ◌∷◌, ◌++◌, length, drop, Option, Some, None, IfSome, refl, sym, ◌∙◌, subst, arith}
 use Rattle.std.proofs.lemmas.List.{length-take}
 use Rattle.card_journal.specs.Next.{IsNext}
 use Rattle.card_journal.specs.Read.{BankHolds, IsRowAt, OnlyReads, ReadUpTo}
@@ -9,7 +9,7 @@ use Rattle.flash_pages.specs.Bytes.{part}
 use Rattle.flash_pages.specs.Flash.{FlashState, IsFlash, card_blocks}
 use Rattle.flash_pages.specs.Rows.{LiesBefore, RowIs, RowsUpTo}
 use Rattle.flash_pages.specs.declared.bank.Bank.{Bank}
-use Rattle.flash_pages.specs.declared.row.RowAt.TheVariants.{Open, End, Overrun}
+use Rattle.flash_pages.specs.declared.row.RowAt.TheVariants.{Open, Overrun}
 use Rattle.flash_pages.proofs.Reading.{RowsUpTo-start, bank-end, bank-open, bank-overrun}
 use Rattle.flash_pages.proofs.Touched.{GoesOn-refl, GoesOn-trans, LeavesOnly-trans, at_some, from_each}
 use Rattle.record_codec.specs.IsDurable.{IsDurable}

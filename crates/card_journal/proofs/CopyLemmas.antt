@@ -1,15 +1,14 @@
 -- A copy of a card leaves that card.
-use Rattle.std.proofs.Common.{◌≡◌, ◌≢◌, ℕ, zero, suc, ◌+◌, ◌<◌, ◌≤◌, Bool, true, false, cond, nat_eq, List, [], ◌∷◌, ◌++◌, length, map, set, replicate, Option, Some, None, refl, sym, ◌∙◌, ap, subst, ⊎_elim, arith, eqb-true, eq-eqb, append_assoc}
+use Rattle.std.proofs.Common.{◌≡◌, ◌≢◌, ℕ, zero, suc, ◌+◌, ◌<◌, Bool, true, false, cond, nat_eq, List, [], ◌∷◌, ◌++◌, length, map, set, replicate, Option, Some, None, refl, sym, ◌∙◌, ap, subst, ⊎_elim, arith, eqb-true, eq-eqb, append_assoc}
 use Rattle.std.specs.Prelude.{IfSome, option_map, slice_get}
-use Rattle.std.specs.List.{Any, AllByRecursion}
+use Rattle.std.specs.List.{AllByRecursion}
 use Rattle.std.proofs.lemmas.Bool.{false≢true}
-use Rattle.std.proofs.lemmas.List.{append-nil, length-append, length_push}
+use Rattle.std.proofs.lemmas.List.{append-nil, length-append}
 use Rattle.file_rows.specs.Content.{IsValid}
 use Rattle.file_rows.specs.declared.content.Content.{Content}
 use Rattle.file_rows.proofs.ListLemmas.{any_cases, any_none, each_right}
-use Rattle.notify_list.specs.Notes.{NoteList}
 use Rattle.plain_lists.specs.EachTwo.{EachTwo}
-use Rattle.port_table.specs.Ports.{bound, holds}
+use Rattle.port_table.specs.Ports.{holds}
 use Rattle.port_table.specs.declared.ports.Ports.{Ports}
 use Rattle.card_journal.specs.Copy.{copy_of, port_of, put_each}
 use Rattle.card_journal.specs.Image.{Follow, Leave}
@@ -19,9 +18,8 @@ use Rattle.record_codec.specs.Heads.{IsHeld}
 use Rattle.record_codec.specs.IsDurable.{IsDurable, IsHead}
 use Rattle.record_codec.specs.PutCard.{new_card}
 use Rattle.record_codec.specs.PutProfile.{bound_where}
-use Rattle.record_codec.specs.Takes.{IsFreePort, IsNewProfile}
+use Rattle.record_codec.specs.Takes.{IsFreePort}
 use Rattle.record_codec.specs.declared.durable.Durable.{Durable}
-use Rattle.record_codec.specs.declared.durable.Heads.{Heads}
 use Rattle.record_codec.specs.declared.profile.ProfileHead.{ProfileHead}
 use Rattle.record_codec.specs.declared.record.Record.{Record}
 use Rattle.record_codec.specs.declared.record.Record.TheVariants as records

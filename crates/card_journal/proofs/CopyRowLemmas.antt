@@ -1,5 +1,5 @@
 -- The rows of a card's copy.
-use Rattle.std.proofs.Common.{◌≡◌, ℕ, zero, suc, ◌+◌, ◌-◌, ◌*◌, ◌<◌, ◌≤◌, ◌^◌, Bool, true, false, IsTrue, List, [], ◌∷◌, ◌++◌, length, map, take, slice_get, Option, Some, None, IfSome, Result, Ok, Err, IfOk, OnOk, refl, sym, ◌∙◌, ap, subst, arith}
+use Rattle.std.proofs.Common.{◌≡◌, ℕ, zero, suc, ◌+◌, ◌-◌, ◌*◌, ◌<◌, ◌≤◌, Bool, true, false, List, [], ◌∷◌, ◌++◌, length, map, take, slice_get, Option, Some, None, IfSome, Result, Ok, Err, OnOk, refl, sym, ◌∙◌, ap, subst, arith}
 use Rattle.std.specs.List.{AllByRecursion}
 use Rattle.std.specs.Prelude.{cond, option_map, slice_index_or}
 use Rattle.file_rows.specs.declared.content.Content.{Content}
@@ -14,7 +14,6 @@ use Rattle.flash_pages.proofs.Outcome.{length-bank_bytes}
 use Rattle.flash_pages.proofs.Touched.{at_some, flash_size, from_each, known_before, same_some}
 use Rattle.port_table.specs.Ports.{holds}
 use Rattle.record_codec.specs.Apply.{apply}
-use Rattle.record_codec.specs.Begin.{IsBegun}
 use Rattle.record_codec.specs.FitsCard.{FitsCard}
 use Rattle.record_codec.specs.IsDurable.{IsDurable}
 use Rattle.record_codec.specs.Sizes.{Codes, HasCoding, HasSizes}
@@ -25,7 +24,7 @@ use Rattle.record_codec.specs.declared.record.Record.{Record}
 use Rattle.record_codec.specs.declared.record.Record.TheVariants.{PutCard, PutProfile}
 use Rattle.record_codec.proofs.SizeLemmas.{sizes_of}
 use Rattle.card_journal.specs.Copy.{HoldsCopy, copy_of, port_of, put_each}
-use Rattle.card_journal.specs.Image.{AreCodings, Follow, Leave, bank_of, switch_row}
+use Rattle.card_journal.specs.Image.{AreCodings, Follow, bank_of, switch_row}
 use Rattle.card_journal.specs.Stored.{EndsClean}
 use Rattle.card_journal.proofs.BoundLemmas.{one_row}
 use Rattle.card_journal.proofs.CopyLemmas.{copied}

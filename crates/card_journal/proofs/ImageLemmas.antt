@@ -4,7 +4,6 @@ use Rattle.card_journal.specs.Image.{AreCodings, Follow, HoldsCard, Leave, Makes
 use Rattle.flash_pages.specs.Rows.{HasRows}
 use Rattle.flash_pages.proofs.Unique.{unique}
 use Rattle.record_codec.specs.Apply.{apply, fold}
-use Rattle.record_codec.specs.Begin.{IsBegun}
 use Rattle.record_codec.specs.FitsCard.{FitsCard}
 use Rattle.record_codec.specs.IsDurable.{IsDurable}
 use Rattle.record_codec.specs.Sizes.{Codes}

@@ -1,6 +1,7 @@
 pub mod AppendLemmas
 pub mod BankLemmas
 pub mod BoundLemmas
+pub mod CleanLemmas
 pub mod CopyLemmas
 pub mod CopyRowLemmas
 pub mod EraseLemmas

@@ -1,5 +1,5 @@
 -- What is read when a store is opened.
-use Rattle.std.proofs.Common.{◌≡◌, ◌↔◌, inl, inr, ℕ, ◌+◌, ◌-◌, ◌*◌, ◌<◌, ◌≤◌, Bool, true, false, IsTrue, List, [], length, take, slice_index, Option, Some, None, IfSome, EachIndex, get_or, refl, sym, ◌∙◌, ap, subst, arith}
+use Rattle.std.proofs.Common.{◌≡◌, ◌↔◌, ℕ, ◌+◌, ◌-◌, ◌*◌, ◌<◌, ◌≤◌, Bool, true, false, IsTrue, List, [], length, take, slice_index, Some, IfSome, EachIndex, get_or, refl, sym, ◌∙◌, ap, subst, arith}
 use Rattle.std.proofs.lemmas.Bool.{false≢true}
 use Rattle.std.proofs.lemmas.List.{get_or-replicate, take_at}
 use Rattle.flash_pages.specs.Bank.{IsPlaceIn, bank_bytes, end_of, start_of}
@@ -12,7 +12,7 @@ use Rattle.flash_pages.proofs.BlankBehind.{bank-blank, bank-erased, blank-more}
 use Rattle.flash_pages.proofs.Patches.{blank_from_each, length-blank, part-blank}
 use Rattle.flash_pages.proofs.Touched.{at_some, flash_size, from_each}
 use Rattle.record_codec.specs.declared.durable.Durable.{Durable}
-use Rattle.card_journal.specs.Image.{HoldsCard, bank_of, live_bytes, switch_row}
+use Rattle.card_journal.specs.Image.{HoldsCard, bank_of, switch_row}
 use Rattle.card_journal.specs.Read.{BankHolds, OnlyReads}
 use Rattle.card_journal.specs.Stored.{EndsClean}
 

@@ -1,17 +1,16 @@
 -- What is read of a bank, row by row.
-use Rattle.std.proofs.Common.{◌≡◌, ℕ, ◌+◌, ◌-◌, ◌^◌, ◌<◌, ◌≤◌, List, [], ◌∷◌, ◌++◌, length, take, drop, Option, Some, None, refl, sym, ◌∙◌, ap, subst, arith, append_assoc}
-use Rattle.std.proofs.lemmas.List.{append-nil, length-append}
+use Rattle.std.proofs.Common.{◌≡◌, ℕ, ◌-◌, ◌^◌, ◌<◌, List, [], ◌∷◌, ◌++◌, length, drop, Option, Some, None, refl, sym, ◌∙◌, ap, subst, arith, append_assoc}
+use Rattle.std.proofs.lemmas.List.{length-append}
 use Rattle.card_journal.specs.Image.{AreCodings, Follow, Leave, MakesCard}
 use Rattle.card_journal.specs.Next.{IsNext, LeaveSoFar}
 use Rattle.card_journal.specs.Read.{BankHolds, ReadUpTo}
-use Rattle.flash_pages.specs.Bank.{bank_bytes, end_of, start_of}
-use Rattle.flash_pages.specs.Rows.{BeginsWithRow, HasRows, IsClosed, RowsUpTo, open_rows, row_of}
+use Rattle.flash_pages.specs.Bank.{bank_bytes, start_of}
+use Rattle.flash_pages.specs.Rows.{HasRows, IsClosed, RowsUpTo, open_rows, row_of}
 use Rattle.flash_pages.specs.declared.bank.Bank.{Bank}
 use Rattle.flash_pages.proofs.Reading.{split}
 use Rattle.flash_pages.proofs.RowLemmas.{length-row_of}
 use Rattle.flash_pages.proofs.Unique.{not_closed, same_row, unique}
 use Rattle.record_codec.specs.Apply.{apply, fold}
-use Rattle.record_codec.specs.Begin.{IsBegun}
 use Rattle.record_codec.specs.FitsCard.{FitsCard}
 use Rattle.record_codec.specs.Sizes.{Codes}
 use Rattle.record_codec.specs.declared.durable.Durable.{Durable}

@@ -1,5 +1,5 @@
 -- What a store keeps, from call to call.
-use Rattle.std.proofs.Common.{Bool, IsTrue, ◌↔◌, IsSome, drop, ◌^◌, ◌≡◌, ◌⊎◌, inl, inr, ⊎_elim, ℕ, ◌+◌, ◌-◌, ◌*◌, ◌<◌, ◌≤◌, List, length, Option, Some, None, IfSome, Result, Ok, Err, OnOk, OnErr, refl, sym, ◌∙◌, ap, subst, arith}
+use Rattle.std.proofs.Common.{Bool, IsTrue, ◌↔◌, IsSome, drop, ◌^◌, ◌≡◌, ◌⊎◌, inl, inr, ⊎_elim, ℕ, ◌+◌, ◌-◌, ◌*◌, ◌<◌, ◌≤◌, List, length, Option, Some, None, IfSome, Result, Ok, Err, OnOk, refl, sym, ◌∙◌, subst, arith}
 use Rattle.std.specs.Prelude.{unwrap_or}
 use Rattle.flash_pages.specs.Append.{AppendsRow}
 use Rattle.flash_pages.specs.Bank.{IsPlaceIn, end_of, start_of}
@@ -14,19 +14,18 @@ use Rattle.flash_pages.proofs.RowLemmas.{length-row_of}
 use Rattle.flash_pages.proofs.Throughout.{MayLeaveOnly-bytes, MayLeaveOnly-weaken, Throughout-trans, Throughout-weaken}
 use Rattle.flash_pages.proofs.Touched.{GoesOn-trans, LeavesOnly-trans, at_some, flash_size, from_each, known_before, same_some}
 use Rattle.record_codec.specs.Apply.{apply}
-use Rattle.record_codec.specs.Sizes.{Codes}
 use Rattle.record_codec.specs.declared.durable.Durable.{Durable}
 use Rattle.record_codec.specs.declared.record.Record.{Record}
 use Rattle.card_journal.specs.Image.{HoldsCard, bank_of, live_bytes, switch_row}
 use Rattle.card_journal.proofs.AppendLemmas.{holds_card}
 use Rattle.card_journal.proofs.ImageLemmas.{one_card}
-use Rattle.card_journal.specs.StoreState.{Commits, IsKept, KeepsCard, StoreState}
+use Rattle.card_journal.specs.StoreState.{Commits, FlashKeeps, KeepsCard, StoreState}
 use Rattle.card_journal.specs.Read.{OnlyReads}
-use Rattle.card_journal.specs.Stored.{AppendsRecord, EndsClean, HoldsEither, HoldsWith, IsStored}
+use Rattle.card_journal.specs.Stored.{EndsClean, HoldsEither, HoldsWith, IsStored}
 use Rattle.card_journal.proofs.OpenLemmas.{ends_erased}
 
 -- each content that a restart may leave holds what is held, or that after the unrepaired record
-pub kept_with : (flash : FlashState) (held : Durable) (unrepaired : Option Record) (live end : ℕ) → IsKept flash held unrepaired live end
+pub kept_with : (flash : FlashState) (held : Durable) (unrepaired : Option Record) (live end : ℕ) → FlashKeeps flash held unrepaired live end
     → MayLeaveOnly flash (HoldsWith held unrepaired)
 kept_with flash held None live end kept = kept.may_leave
 kept_with flash held (Some entry) live end kept = kept
@@ -64,14 +63,14 @@ some_first_erased s at n more le erased = from_each s.bytes _ (λ image is.
 
 -- what is stored is kept, where no record is unrepaired
 pub kept_stored : (flash : FlashState) (held after : Durable) (unrepaired : Option Record) (live end next : ℕ) → unrepaired ≡ None → after ≡ held → next ≡ end
-    → IsStored flash held live end → IsKept flash after unrepaired live next
+    → IsStored flash held live end → FlashKeeps flash after unrepaired live next
 kept_stored flash held after unrepaired live end next none same here stored =
-    subst (λ (o : Option Record). IsKept flash after o live next) (sym none)
+    subst (λ (o : Option Record). FlashKeeps flash after o live next) (sym none)
     (subst (λ (d : Durable). IsStored flash d live next) (sym same) (subst (λ (k : ℕ). IsStored flash held live k) (sym here) stored))
 
-pub stored_kept : (flash : FlashState) (held : Durable) (unrepaired : Option Record) (live end : ℕ) → unrepaired ≡ None → IsKept flash held unrepaired live end
+pub stored_kept : (flash : FlashState) (held : Durable) (unrepaired : Option Record) (live end : ℕ) → unrepaired ≡ None → FlashKeeps flash held unrepaired live end
     → IsStored flash held live end
-stored_kept flash held unrepaired live end none kept = subst (λ (o : Option Record). IsKept flash held o live end) none kept
+stored_kept flash held unrepaired live end none kept = subst (λ (o : Option Record). FlashKeeps flash held o live end) none kept
 
 -- what is held with the unrepaired record is one of two cards
 pub either_of : (held : Durable) (unrepaired : Option Record) → (other : Durable)
@@ -81,7 +80,7 @@ either_of held None = (held, λ image holds. inl holds, λ image either. ⊎_eli
 either_of held (Some entry) = (apply held entry, λ image holds. holds, λ image either. either)
 
 -- over a switch
-pub switch_throughout : (a b : FlashState) (held : Durable) (unrepaired : Option Record) (live end : ℕ) → IsKept a held unrepaired live end
+pub switch_throughout : (a b : FlashState) (held : Durable) (unrepaired : Option Record) (live end : ℕ) → FlashKeeps a held unrepaired live end
     → ((other : Durable) → MayLeaveOnly a (HoldsEither held other) → Throughout (HoldsEither held other) a b)
     → Throughout (HoldsWith held unrepaired) a b
 switch_throughout a b held unrepaired live end kept over =
@@ -90,8 +89,8 @@ switch_throughout a b held unrepaired live end kept over =
     (over both.0 (MayLeaveOnly-weaken a (HoldsWith held unrepaired) (HoldsEither held both.0) both.1 (kept_with a held unrepaired live end kept)))
 
 -- after a failure the record of before is unrepaired, or this one
-pub failed_kept : (a b : FlashState) (held : Durable) (unrepaired : Option Record) (copy : Record) (live end live' end' : ℕ) → IsKept a held unrepaired live end
-    → Throughout (HoldsWith held unrepaired) a b → IsKept b held (Some (unwrap_or unrepaired copy)) live' end'
+pub failed_kept : (a b : FlashState) (held : Durable) (unrepaired : Option Record) (copy : Record) (live end live' end' : ℕ) → FlashKeeps a held unrepaired live end
+    → Throughout (HoldsWith held unrepaired) a b → FlashKeeps b held (Some (unwrap_or unrepaired copy)) live' end'
 failed_kept a b held None copy live end live' end' kept through =
     MayLeaveOnly-weaken b (HoldsWith held None) (HoldsWith held (Some copy)) (λ image holds. inl holds) through.may_leave
 failed_kept a b held (Some entry) copy live end live' end' kept through = through.may_leave
@@ -101,8 +100,8 @@ failed_is None copy = inr refl
 failed_is (Some entry) copy = inl refl
 
 -- a flash that was only read keeps what it kept
-pub reads_kept : (a b : FlashState) (held : Durable) (unrepaired : Option Record) (live end : ℕ) → OnlyReads a b → IsKept a held unrepaired live end
-    → IsKept b held unrepaired live end
+pub reads_kept : (a b : FlashState) (held : Durable) (unrepaired : Option Record) (live end : ℕ) → OnlyReads a b → FlashKeeps a held unrepaired live end
+    → FlashKeeps b held unrepaired live end
 reads_kept a b held None live end reads kept = record {
   bytes = from_each b.bytes _ (λ image is. at_some a.bytes (EndsClean held live end) image (sym reads.bytes ∙ is) kept.bytes);
   may_leave = λ some content left.
@@ -166,7 +165,7 @@ only_throughout a b P lawful reads each = record {
 short_part : (at n : ℕ) (image : List ℕ) → n ≤ 4980736 → length (part at n image) < 2 ^ 32
 short_part at n image le = omega (arith, le, length-take n (drop at image))
 
-short_live : (image : List ℕ) → length (live_bytes image) < 2 ^ 32
+pub short_live : (image : List ℕ) → length (live_bytes image) < 2 ^ 32
 short_live image = short_part (start_of (bank_of (live_of (switch_row image)))) 4980736 image (omega arith)
 
 none_some : (o : Option (List ℕ)) → o ≡ None → IsSome o → ⊥

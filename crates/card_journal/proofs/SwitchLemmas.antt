@@ -1,9 +1,9 @@
 -- A switch to the idle bank.
-use Rattle.std.proofs.Common.{◌≡◌, ◌≢◌, ◌⊎◌, inl, inr, ℕ, zero, suc, ◌+◌, ◌-◌, ◌*◌, ◌<◌, ◌≤◌, IsTrue, is_ok, List, [], ◌∷◌, length, map, slice_index, Option, Some, None, IfSome, Result, refl, sym, ◌∙◌, ap, subst, arith}
+use Rattle.std.proofs.Common.{◌≡◌, ◌≢◌, ◌⊎◌, inl, inr, ℕ, zero, suc, ◌+◌, ◌-◌, ◌*◌, ◌<◌, ◌≤◌, IsTrue, is_ok, List, [], ◌∷◌, length, map, slice_index, Some, None, IfSome, Result, sym, ◌∙◌, ap, subst, arith}
 use Rattle.std.proofs.lemmas.Bool.{cases_eq}
 use Rattle.flash_pages.specs.Append.{EndsBlank}
 use Rattle.flash_pages.specs.Bank.{bank_bytes, start_of}
-use Rattle.flash_pages.specs.Bytes.{DiffersIn, IsErased, part, patch}
+use Rattle.flash_pages.specs.Bytes.{DiffersIn, IsErased, patch}
 use Rattle.flash_pages.specs.Flash.{Changes, FlashState, IsFlash, MayLeaveOnly, Reads, Throughout, Touches, card_blocks}
 use Rattle.flash_pages.specs.Rows.{HasRows}
 use Rattle.flash_pages.specs.Switch.{IsNextByte, SwitchesTo, live_of}
@@ -14,7 +14,6 @@ use Rattle.flash_pages.proofs.Touched.{at_some, flash_size, from_each, known_bef
 use Rattle.record_codec.specs.IsDurable.{IsDurable}
 use Rattle.record_codec.specs.Spelling.{spelling}
 use Rattle.record_codec.specs.declared.durable.Durable.{Durable}
-use Rattle.record_codec.specs.declared.record.Record.{Record}
 use Rattle.card_journal.specs.Copy.{HoldsCopy, copy_of}
 use Rattle.card_journal.specs.Image.{HoldsCard, bank_of, live_bytes, switch_row}
 use Rattle.card_journal.specs.Stored.{EndsClean, HoldsEither, IsStored}

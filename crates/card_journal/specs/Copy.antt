@@ -1,5 +1,6 @@
 -- The records that a switch writes: a copy of the card, without what it was before.
-use Rattle.std.specs.Prelude.{ℕ, zero, suc, ◌-◌, if◌then◌else◌, List, [], ◌∷◌, map, Option, Some, None, option_map}
+use Rattle.std.specs.Prelude.{ℕ, suc, ◌-◌, if◌then◌else◌, List, [], ◌∷◌, map, Option, Some}
+use Rattle.std.specs.Prelude.{None, option_map}
 use Rattle.std.specs.List.{AllByRecursion}
 use Rattle.card_journal.specs.Image.{bank_of}
 use Rattle.file_rows.specs.declared.content.Content.{Content}

@@ -1,7 +1,8 @@
 -- Why no store was opened.
 use Rattle.std.specs.Prelude.{ℕ, ◌≡◌, ⊤}
 use Rattle.card_journal.specs.declared.open_fault.OpenFault.{OpenFault}
-use Rattle.card_journal.specs.declared.open_fault.OpenFault.TheVariants.{Flash, NotACard, Worn, NoMemory}
+use Rattle.card_journal.specs.declared.open_fault.OpenFault.TheVariants.{Flash, NotACard, Worn}
+use Rattle.card_journal.specs.declared.open_fault.OpenFault.TheVariants.{NoMemory}
 use Rattle.port_io.specs.Faults.{Rose}
 
 -- the flash failed only where its count of faults rose, from the one count to the other

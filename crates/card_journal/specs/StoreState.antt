@@ -3,8 +3,10 @@ use Rattle.std.specs.Prelude.{ℕ, ◌≡◌, ◌⊎◌, ◌<◌, ◌≤◌, ◌
 use Rattle.flash_pages.specs.Bank.{IsPlaceIn, end_of}
 use Rattle.flash_pages.specs.Bytes.{IsErased}
 use Rattle.flash_pages.specs.Flash.{FlashState, LeavesOnly, MayLeaveOnly}
-use Rattle.card_journal.specs.Image.{HoldsCard, MakesCard, bank_of}
-use Rattle.card_journal.specs.Stored.{HoldsWith, IsStored}
+use Rattle.flash_pages.specs.Switch.{IsNextByte}
+use Rattle.card_journal.specs.Image.{HoldsCard, MakesCard, bank_of, switch_row}
+use Rattle.card_journal.specs.Read.{OnlyReads}
+use Rattle.card_journal.specs.Stored.{EndsTorn, HoldsWith, IsStored}
 use Rattle.record_codec.specs.Apply.{apply}
 use Rattle.record_codec.specs.FitsCard.{FitsCard}
 use Rattle.record_codec.specs.IsDurable.{IsDurable}
@@ -34,12 +36,12 @@ pub record IsUsable (store : StoreState) : Type 0 where
 -- The flash keeps what the store holds: it holds that, in the live bank, and so does each content
 -- that a restart may leave. Where a record is unrepaired, each of these holds that, or that after
 -- the record.
-abbrev pub IsKept : FlashState → Durable → Option Record → ℕ → ℕ → Type 0
-IsKept flash held None live end = IsStored flash held live end
-IsKept flash held (Some entry) live end = MayLeaveOnly flash (HoldsWith held (Some entry))
+abbrev pub FlashKeeps : FlashState → Durable → Option Record → ℕ → ℕ → Type 0
+FlashKeeps flash held None live end = IsStored flash held live end
+FlashKeeps flash held (Some entry) live end = MayLeaveOnly flash (HoldsWith held (Some entry))
 
 abbrev pub KeepsCard : StoreState → Type 0
-KeepsCard store = IsKept store.flash store.held store.unrepaired store.live store.end
+KeepsCard store = FlashKeeps store.flash store.held store.unrepaired store.live store.end
 
 -- a commit takes the record: it fits what is held, and makes no new card
 pub record MayCommit (held : Durable) (entry : Record) : Type 0 where
@@ -47,8 +49,36 @@ pub record MayCommit (held : Durable) (entry : Record) : Type 0 where
   pub later : ¬ MakesCard entry
 
 -- the row of the record has room behind the open rows of the live bank
-abbrev pub HasRoom : StoreState → Record → Type 0
-HasRoom store entry = store.end + 5 + length (spelling entry) ≤ end_of (bank_of store.live)
+abbrev pub RowHasRoom : StoreState → Record → Type 0
+RowHasRoom store entry = store.end + 5 + length (spelling entry) ≤ end_of (bank_of store.live)
+
+-- a commit of the record switches to the other bank, unless no record is unrepaired and its row has
+-- room in the live one
+abbrev pub NeedsSwitch : StoreState → Record → Type 0
+NeedsSwitch store entry = ¬ ((store.unrepaired ≡ None) × RowHasRoom store entry)
+
+-- where the flash tells its bytes, its switch row has no byte to use
+abbrev pub IsWorn : FlashState → Type 0
+IsWorn flash = IfSome flash.bytes (λ image. IsNextByte (switch_row image) None)
+
+-- where the flash tells its bytes, its switch row has a byte to use
+abbrev pub HasNextByte : FlashState → Type 0
+HasNextByte flash = IfSome flash.bytes (λ image. ¬ IsNextByte (switch_row image) None)
+
+-- A store that wasn't opened since the switch row is used up: it needed a switch, since no card ends
+-- clean in the live bank, and the flash was only read.
+pub record IsNotOpenedWorn (old new : FlashState) : Type 0 where
+  pub needed : IfSome old.bytes EndsTorn
+  pub worn : IsWorn old
+  pub reads : OnlyReads old new
+
+-- A commit that was refused since the switch row is used up: it needed a switch, the flash was only
+-- read, and what is unrepaired is as before.
+pub record IsRefusedWorn (old new : StoreState) (entry : Record) : Type 0 where
+  pub needed : NeedsSwitch old entry
+  pub worn : IsWorn old.flash
+  pub reads : OnlyReads old.flash new.flash
+  pub unrepaired : new.unrepaired ≡ old.unrepaired
 
 -- A commit of a record: at each moment since it began the flash holds what was held, or that after
 -- the record that was unrepaired, or after this one. From its end on the flash keeps what the store

@@ -28,6 +28,10 @@ pub record EndsClean (held : Durable) (live end : ℕ) (image : List ℕ) : Type
   pub codings : AreCodings bodies entries
   pub left : Leave entries held
 
+-- no card ends clean in the live bank: none is held, or behind its rows a byte isn't FF
+abbrev pub EndsTorn : List ℕ → Type 0
+EndsTorn image = (held : Durable) (live end : ℕ) → ¬ EndsClean held live end image
+
 -- The flash holds this, in this bank up to this place, and so does each content that a restart may
 -- leave.
 pub record IsStored (flash : FlashState) (held : Durable) (live end : ℕ) : Type 0 where

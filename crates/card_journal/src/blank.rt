@@ -1,5 +1,6 @@
 // Whether bytes are erased.
-ghost use Rattle.std.specs.Prelude.{◌≡◌, ◌↔◌, ◌*◌, ◌-◌, ◌≤◌, IfOk, IfSome, IsTrue, EachIndex, slice_index};
+ghost use Rattle.std.specs.Prelude.{◌≡◌, ◌↔◌, ◌*◌, ◌-◌, ◌≤◌, IfOk, IfSome, IsTrue, EachIndex};
+ghost use Rattle.std.specs.Prelude.{slice_index};
 ghost use Rattle.port_io.specs.Faults.{FailsOnlyWhereRose};
 ghost use Rattle.card_journal.specs.Read.{OnlyReads};
 ghost use Rattle.flash_pages.specs.Bytes.{IsErased};

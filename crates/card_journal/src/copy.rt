@@ -1,5 +1,6 @@
 // The copy of a card, written into the idle bank.
-ghost use Rattle.std.specs.Prelude.{◌≡◌, ◌*◌, ◌+◌, ◌<◌, ◌≤◌, Some, suc, length, slice_get, IfOk, IfSome, OnOk};
+ghost use Rattle.std.specs.Prelude.{◌≡◌, ◌*◌, ◌+◌, ◌<◌, ◌≤◌, Some, suc, length, slice_get, IfOk};
+ghost use Rattle.std.specs.Prelude.{IfSome, OnOk};
 ghost use Rattle.port_io.specs.Faults.{FailsOnlyWhereRose};
 ghost use Rattle.card_journal.specs.Copy.{HoldsCopy, copy_of, port_of};
 ghost use Rattle.card_journal.specs.Image.{bank_of};

@@ -1,5 +1,6 @@
 ghost use Rattle.std.specs.Prelude.{◌≡◌};
-ghost use Rattle.card_journal.specs.declared.fault.ReadFault.TheVariants.{Flash, NotACard, NoMemory};
+ghost use Rattle.card_journal.specs.declared.fault.ReadFault.TheVariants.{Flash, NotACard};
+ghost use Rattle.card_journal.specs.declared.fault.ReadFault.TheVariants.{NoMemory};
 
 use port_io::Failed;
 use std::alloc::AllocError;

@@ -1,10 +1,11 @@
 // What a flash holds, read when a store is opened.
-ghost use Rattle.std.specs.Prelude.{◌≡◌, ◌↔◌, ◌<◌, ◌-◌, IfOk, IfSome, IsErrOf, IsTrue};
+ghost use Rattle.std.specs.Prelude.{◌≡◌, ◌↔◌, ◌<◌, ◌-◌, IfOk, IfSome, IsErrOf, IsTrue, OnOk};
 ghost use Rattle.port_io.specs.Faults.{OnlyWhereRose};
 ghost use Rattle.card_journal.specs.Image.{HoldsCard, bank_of};
 ghost use Rattle.card_journal.specs.NotOpened.{fault_of};
 ghost use Rattle.card_journal.specs.Read.{OnlyReads};
-ghost use Rattle.card_journal.specs.Stored.{EndsClean, IsStored};
+ghost use Rattle.card_journal.specs.StoreState.{HasNextByte, IsNotOpenedWorn};
+ghost use Rattle.card_journal.specs.Stored.{EndsClean, EndsTorn, IsStored};
 ghost use Rattle.flash_pages.specs.Bank.{IsPlaceIn, end_of};
 ghost use Rattle.flash_pages.specs.Bytes.{IsErased};
 ghost use Rattle.flash_pages.specs.Flash.{GoesOn, IsSettled, MayLeaveOnly, Throughout};
@@ -37,6 +38,8 @@ pub(crate) fn read_card<F: Flash>(alloc: Global, flash: &mut F) -> Result<Opened
     ensures clean { IfOk result (λ opened. IfSome (F.state flash.old).bytes
         (λ image. IsTrue opened.is_clean
         ↔ EndsClean opened.held opened.live opened.end image)) }
+    ensures torn { IfOk result (λ opened. ¬ IsTrue opened.is_clean
+        → IfSome (F.state flash.old).bytes EndsTorn) }
     ensures valid { IfOk result (λ opened. IsDurable opened.held) }
     ensures bank { IfOk result (λ opened. opened.live < 2) }
     ensures place { IfOk result (λ opened. IsPlaceIn (bank_of opened.live) opened.end) }
@@ -97,6 +100,10 @@ pub(crate) fn open_card<F: Flash>(alloc: Global, flash: &mut F) -> Result<Opened
     ensures throughout { (held : Durable)
         → MayLeaveOnly (F.state flash.old) (λ content. HoldsCard content held)
         → Throughout (λ content. HoldsCard content held) (F.state flash.old) (F.state flash.new) }
+    ensures next { OnOk result (IfSome (F.state flash.old).bytes EndsTorn
+        → HasNextByte (F.state flash.old)) }
+    ensures worn { IsErrOf result NotOpened.Worn
+        → IsNotOpenedWorn (F.state flash.old) (F.state flash.new) }
     ensures time { GoesOn (F.state flash.old) (F.state flash.new) }
     ensures cause { OnlyWhereRose (IsErrOf result (NotOpened.Read ReadFault.Flash))
         (F.state flash.old).faults (F.state flash.new).faults }

@@ -1,16 +1,18 @@
-ghost use Rattle.std.specs.Prelude.{◌≡◌, ◌≤◌, ◌+◌, ◌⊎◌, ◌↔◌, None, Some, length, IfErr, IfOk, IfSome, IsErrOf, IsOk, IsTrue, OnErr, OnOk};
+ghost use Rattle.std.specs.Prelude.{◌≡◌, ◌≢◌, ◌≤◌, ◌+◌, ◌⊎◌, ◌↔◌, None, Some, length};
+ghost use Rattle.std.specs.Prelude.{IfErr, IfOk, IfSome, IsErrOf, IsOk, IsTrue, OnErr, OnOk};
 ghost use Rattle.port_io.specs.Faults.{FailsOnlyWhereRose, OnlyWhereRose};
 ghost use Rattle.card_journal.specs.CommitFault.{IsCauseOf};
-ghost use Rattle.card_journal.specs.Image.{HoldsCard, bank_of, switch_row};
+ghost use Rattle.card_journal.specs.Image.{HoldsCard, bank_of};
 ghost use Rattle.card_journal.specs.OpenFault.{HasRisen};
 ghost use Rattle.card_journal.specs.Read.{OnlyReads};
 ghost use Rattle.card_journal.specs.Store.{store_of};
-ghost use Rattle.card_journal.specs.StoreState.{Commits, HasRoom, IsUsable, KeepsCard, MayCommit};
-ghost use Rattle.card_journal.specs.Stored.{HoldsWith};
+ghost use Rattle.card_journal.specs.StoreState.{Commits, HasNextByte, IsNotOpenedWorn, IsRefusedWorn, IsUsable};
+ghost use Rattle.card_journal.specs.StoreState.{IsWorn};
+ghost use Rattle.card_journal.specs.StoreState.{KeepsCard, MayCommit, NeedsSwitch, RowHasRoom};
+ghost use Rattle.card_journal.specs.Stored.{EndsTorn, HoldsWith};
 ghost use Rattle.flash_pages.specs.Append.{AppendsRow};
 ghost use Rattle.flash_pages.specs.Bank.{end_of};
 ghost use Rattle.flash_pages.specs.Flash.{GoesOn, IsSettled, MayLeaveOnly, Throughout};
-ghost use Rattle.flash_pages.specs.Switch.{IsNextByte};
 ghost use Rattle.record_codec.specs.Apply.{apply};
 ghost use Rattle.record_codec.specs.Heads.{IsHeld, held_content};
 ghost use Rattle.record_codec.specs.Room.{IsRoomFor};
@@ -64,6 +66,10 @@ impl<F: Flash> BankStore<F> {
             (F.state back.value)) }
         ensures card { IfErr result (λ back. back.fault ≡ OpenFault.NotACard
             → IfSome (F.state flash).bytes (λ image. (held : Durable) → ¬ HoldsCard image held)) }
+        ensures next { OnOk result (IfSome (F.state flash).bytes EndsTorn
+            → HasNextByte (F.state flash)) }
+        ensures worn { IfErr result (λ back. back.fault ≡ OpenFault.Worn
+            → IsNotOpenedWorn (F.state flash) (F.state back.value)) }
         ensures cause { IfErr result (λ back. HasRisen (F.state flash).faults
             (F.state back.value).faults back.fault) }
     {
@@ -131,7 +137,7 @@ impl<F: Flash> BankStore<F> {
     fn has_room(&self, entry: &Record) -> bool
         requires usable { IsUsable (store_of F.state self.now) }
         requires takes { MayCommit self.now.held entry.now }
-        ensures has { IsTrue result ↔ HasRoom (store_of F.state self.now) entry.now }
+        ensures has { IsTrue result ↔ RowHasRoom (store_of F.state self.now) entry.now }
         ensures short { 5 + length (spelling entry.now) ≤ 77605 }
     {
         let bank = bank_of(self.live);
@@ -155,10 +161,8 @@ impl<F: Flash> BankStore<F> {
             (F.state self.old.flash) (F.state self.new.flash) }
         ensures kept { KeepsCard (store_of F.state self.old)
             → KeepsCard (store_of F.state self.new) }
-        ensures next { OnOk result (IfSome (F.state self.old.flash).bytes
-            (λ image. ¬ IsNextByte (switch_row image) None)) }
-        ensures worn { IsErrOf result SwitchFault.Worn → IfSome (F.state self.old.flash).bytes
-            (λ image. IsNextByte (switch_row image) None) }
+        ensures next { OnOk result (HasNextByte (F.state self.old.flash)) }
+        ensures worn { IsErrOf result SwitchFault.Worn → IsWorn (F.state self.old.flash) }
         ensures worn_same { IsErrOf result SwitchFault.Worn
             → (self.new.unrepaired ≡ self.old.unrepaired)
             × OnlyReads (F.state self.old.flash) (F.state self.new.flash) }
@@ -191,7 +195,7 @@ impl<F: Flash> BankStore<F> {
         ensures held { self.new.held ≡ self.old.held }
         ensures copied { IfOk result (λ back. back ≡ copy) }
         ensures repaired { OnOk result (self.new.unrepaired ≡ None) }
-        ensures room { OnOk result (HasRoom (store_of F.state self.new) entry.now) }
+        ensures room { OnOk result (RowHasRoom (store_of F.state self.new) entry.now) }
         ensures refused { OnErr result ((self.new.unrepaired ≡ self.old.unrepaired)
             ⊎ (self.new.unrepaired ≡ Some copy)) }
         ensures throughout { KeepsCard (store_of F.state self.old)
@@ -199,8 +203,13 @@ impl<F: Flash> BankStore<F> {
             (F.state self.old.flash) (F.state self.new.flash) }
         ensures kept { KeepsCard (store_of F.state self.old)
             → KeepsCard (store_of F.state self.new) }
-        ensures ready { self.old.unrepaired ≡ None → HasRoom (store_of F.state self.old) entry.now
+        ensures ready { (self.old.unrepaired ≡ None)
+            × RowHasRoom (store_of F.state self.old) entry.now
             → IsOk result × (self.new ≡ self.old) }
+        ensures next { OnOk result (NeedsSwitch (store_of F.state self.old) entry.now
+            → HasNextByte (F.state self.old.flash)) }
+        ensures worn { IsErrOf result SwitchFault.Worn → IsRefusedWorn
+            (store_of F.state self.old) (store_of F.state self.new) entry.now }
         ensures time { GoesOn (F.state self.old.flash) (F.state self.new.flash) }
         ensures cause { OnlyWhereRose (IsErrOf result SwitchFault.Flash)
             (F.state self.old.flash).faults (F.state self.new.flash).faults }
@@ -219,7 +228,7 @@ impl<F: Flash> BankStore<F> {
         requires takes { MayCommit self.old.held entry.now }
         requires room { IsRoomFor self.old.held entry.now room }
         requires copied { copy ≡ entry.now }
-        requires fits { HasRoom (store_of F.state self.old) entry.now }
+        requires fits { RowHasRoom (store_of F.state self.old) entry.now }
 
         ensures usable { IsUsable (store_of F.state self.new) }
         ensures done { OnOk result ((self.new.held ≡ apply self.old.held entry.now)
@@ -268,6 +277,14 @@ impl<F: Flash> BankStore<F> {
             ⊎ (self.new.unrepaired ≡ Some entry.now))) }
         ensures atomic { KeepsCard (store_of F.state self.old)
             → Commits (store_of F.state self.old) (store_of F.state self.new) entry.now }
+        ensures row { (self.old.unrepaired ≡ None)
+            × RowHasRoom (store_of F.state self.old) entry.now
+            → AppendsRow self.old.end (spelling entry.now) (F.state self.old.flash)
+            (F.state self.new.flash) result }
+        ensures next { OnOk result (NeedsSwitch (store_of F.state self.old) entry.now
+            → HasNextByte (F.state self.old.flash)) }
+        ensures worn { IsErrOf result SwitchFault.Worn → IsRefusedWorn
+            (store_of F.state self.old) (store_of F.state self.new) entry.now }
         ensures time { GoesOn (F.state self.old.flash) (F.state self.new.flash) }
         ensures cause { OnlyWhereRose (IsErrOf result SwitchFault.Flash)
             (F.state self.old.flash).faults (F.state self.new.flash).faults }
@@ -295,6 +312,16 @@ impl<F: Flash> BankStore<F> {
             ⊎ (self.new.unrepaired ≡ Some entry.now))) }
         ensures atomic { KeepsCard (store_of F.state self.old)
             → Commits (store_of F.state self.old) (store_of F.state self.new) entry.now }
+        ensures row { (self.old.unrepaired ≡ None)
+            × RowHasRoom (store_of F.state self.old) entry.now
+            → result ≢ Err CommitFault.NoMemory
+            → AppendsRow self.old.end (spelling entry.now) (F.state self.old.flash)
+            (F.state self.new.flash) result }
+        ensures next { OnOk result (NeedsSwitch (store_of F.state self.old) entry.now
+            → HasNextByte (F.state self.old.flash)) }
+        ensures worn { IsErrOf result CommitFault.Worn → IsRefusedWorn
+            (store_of F.state self.old) (store_of F.state self.new) entry.now }
+        ensures memory { IsErrOf result CommitFault.NoMemory → self.new ≡ self.old }
         ensures time { GoesOn (F.state self.old.flash) (F.state self.new.flash) }
         ensures cause { IfErr result (IsCauseOf (F.state self.old.flash).faults
             (F.state self.new.flash).faults) }

@@ -1,7 +1,7 @@
-use Rattle.std.proofs.Common.{◌≡◌, ◌+◌, ◌≤◌, length, arith, rules, sym, ◌∙◌}
+use Rattle.std.proofs.Common.{◌≡◌, length, arith, rules, sym, ◌∙◌}
 use Rattle.std.proofs.lemmas.Bool.{false≢true}
 use Rattle.card_journal.proofs.BankLemmas.{reads_none, reads_then}
-use Rattle.card_journal.proofs.OpenLemmas.{all_blank, none_blank, only_reads, piece_blank, piece_other}
+use Rattle.card_journal.proofs.OpenLemmas.{none_blank, only_reads, piece_blank, piece_other}
 use Rattle.card_journal.proofs.blank.is_erased.Goals as goal
 
 pub pieces-init : goal.pieces-init

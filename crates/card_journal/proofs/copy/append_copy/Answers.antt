@@ -1,4 +1,4 @@
-use Rattle.std.proofs.Common.{◌≡◌, ℕ, suc, ◌+◌, ◌*◌, ◌<◌, ◌≤◌, List, length, Ok, IfSome, arith, ap, subst, sym}
+use Rattle.std.proofs.Common.{◌≡◌, ℕ, suc, ◌+◌, ◌*◌, ◌≤◌, List, length, Ok, IfSome, arith, ap, subst, sym}
 use Rattle.card_journal.proofs.CopyRowLemmas.{CopiedUpTo, copied_erased, copied_more, copy_short, copy_sizes, length-put_each, none_copied, whole_copied}
 use Rattle.card_journal.specs.CopyBody.{copy_coding}
 use Rattle.card_journal.specs.Image.{bank_of}

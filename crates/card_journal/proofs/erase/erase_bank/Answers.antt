@@ -1,4 +1,4 @@
-use Rattle.std.proofs.Common.{◌+◌, ◌*◌, arith, refl, rules, ◌∙◌}
+use Rattle.std.proofs.Common.{◌*◌, arith, refl, rules, ◌∙◌}
 use Rattle.flash_pages.proofs.Touched.{Touches-refl, Touches-trans}
 use Rattle.card_journal.proofs.EraseLemmas.{block_erased, block_touches, none_erased}
 use Rattle.card_journal.proofs.erase.erase_bank.Goals as goal

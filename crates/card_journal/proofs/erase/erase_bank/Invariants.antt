@@ -1,4 +1,4 @@
-use Rattle.std.proofs.Common.{◌≡◌, ◌*◌, ◌-◌, ◌≤◌, IfSome}
+use Rattle.std.proofs.Common.{◌≡◌, ◌*◌, ◌-◌, IfSome}
 use Rattle.flash_pages.specs.Bank.{start_of}
 use Rattle.flash_pages.specs.Bytes.{IsErased}
 use Rattle.flash_pages.specs.Flash.{Touches, block_len}

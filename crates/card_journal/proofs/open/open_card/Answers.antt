@@ -1,4 +1,3 @@
-use Rattle.std.proofs.Common.{◌≡◌, IfSome}
 use Rattle.card_journal.proofs.StoreLemmas.{only_throughout, open_erased, open_throughout, stored_erased}
 use Rattle.card_journal.specs.Image.{HoldsCard}
 use Rattle.flash_pages.proofs.Touched.{GoesOn-trans}

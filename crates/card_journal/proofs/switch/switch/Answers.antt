@@ -1,4 +1,4 @@
-use Rattle.std.proofs.Common.{◌≡◌, ℕ, ◌<◌, List, [], ◌∷◌, Option, Some, IfSome, subst, rules, sym}
+use Rattle.std.proofs.Common.{◌≡◌, ℕ, ◌<◌, [], ◌∷◌, Option, IfSome, subst, rules, sym}
 use Rattle.card_journal.proofs.SwitchLemmas.{WritesCopy, copy_throughout, flip_stored, flip_throughout, has_next, next_blank, read_throughout}
 use Rattle.card_journal.specs.Image.{switch_row}
 use Rattle.flash_pages.specs.Bytes.{IsErased}

@@ -1,4 +1,4 @@
-use Rattle.std.proofs.Common.{◌≡◌, ◌+◌, ◌-◌, ◌≤◌, ℕ, length, Option, Some, None, Ok, Err, IfSome, refl, sym, ap, subst, arith}
+use Rattle.std.proofs.Common.{◌≡◌, ◌+◌, ◌-◌, ℕ, length, Some, None, Ok, IfSome, refl, sym, ap, subst, arith}
 use Rattle.card_journal.proofs.StoreLemmas.{kept_stored, rest_erased, some_first_erased, stored_kept}
 use Rattle.card_journal.specs.Image.{bank_of}
 use Rattle.card_journal.specs.Store.{store_of}

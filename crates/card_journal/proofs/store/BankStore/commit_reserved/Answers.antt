@@ -4,6 +4,7 @@ use Rattle.card_journal.specs.Store.{store_of}
 use Rattle.card_journal.specs.StoreState.{MayCommit}
 use Rattle.record_codec.specs.Room.{IsRoomFor}
 use Rattle.record_codec.specs.declared.durable.Durable.{Durable}
+use Rattle.flash_pages.proofs.Touched.{GoesOn-trans}
 use Rattle.card_journal.proofs.store.BankStore.commit_reserved.Goals as goal
 
 pub append-requires : goal.append-requires
@@ -34,3 +35,13 @@ returns-in-Err-clause-atomic g c = λ kept.
     let mid = c.make_room.ensures.kept kept in
     commits_row (store_of g.F.Flash.state c.args.self.now) (store_of g.F.Flash.state c.make_room.new.self) (store_of g.F.Flash.state c.append.new.self)
     c.args.entry.now c.make_room.ensures.held (c.make_room.ensures.throughout kept) (c.append.ensures.throughout mid) (c.append.ensures.kept mid)
+
+pub returns-in-Ok-clause-time : goal.returns-in-Ok-clause-time
+returns-in-Ok-clause-time g c =
+    GoesOn-trans 2433 (g.F.Flash.state c.args.self.now.flash) (g.F.Flash.state c.make_room.new.self.flash) (g.F.Flash.state c.append.new.self.flash)
+    (g.met.F.Flash.lawful c.append.new.self.flash) c.make_room.ensures.time c.append.ensures.row.touches.time
+
+pub returns-in-Err-clause-time : goal.returns-in-Err-clause-time
+returns-in-Err-clause-time g c =
+    GoesOn-trans 2433 (g.F.Flash.state c.args.self.now.flash) (g.F.Flash.state c.make_room.new.self.flash) (g.F.Flash.state c.append.new.self.flash)
+    (g.met.F.Flash.lawful c.append.new.self.flash) c.make_room.ensures.time c.append.ensures.row.touches.time

@@ -1,7 +1,4 @@
-use Rattle.std.proofs.Common.{◌≡◌, ◌*◌, ◌+◌, arith, ap}
-use Rattle.card_journal.specs.Image.{bank_of}
-use Rattle.flash_pages.specs.Bank.{end_of}
-use Rattle.flash_pages.specs.declared.bank.Bank.{Bank}
+use Rattle.std.proofs.Common.{arith}
 use Rattle.record_codec.proofs.LengthLemmas.{short_where}
 use Rattle.record_codec.proofs.SizeLemmas.{sizes_of}
 use Rattle.card_journal.proofs.store.BankStore.has_room.Goals as goal

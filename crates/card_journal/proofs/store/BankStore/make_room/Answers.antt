@@ -1,4 +1,4 @@
-use Rattle.std.proofs.Common.{◌+◌, ◌≤◌, Result, Ok, Err, OnOk, arith}
+use Rattle.std.proofs.Common.{Result, Ok, Err, OnOk, arith}
 use Rattle.card_journal.proofs.StoreLemmas.{kept_with}
 use Rattle.card_journal.specs.Stored.{HoldsWith}
 use Rattle.flash_pages.proofs.Throughout.{Throughout-begin}

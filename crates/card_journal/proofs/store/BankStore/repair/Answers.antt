@@ -3,7 +3,7 @@ use Rattle.card_journal.specs.Stored.{HoldsWith}
 use Rattle.flash_pages.specs.Flash.{MayLeaveOnly}
 use Rattle.record_codec.specs.declared.record.Record.{Record}
 use Rattle.std.specs.Prelude.{unwrap_or}
-use Rattle.card_journal.proofs.StoreLemmas.{failed_is, failed_kept, kept_stored, reads_erased, reads_kept, stored_erased, switch_throughout}
+use Rattle.card_journal.proofs.StoreLemmas.{failed_kept, reads_kept, stored_erased, switch_throughout}
 use Rattle.card_journal.proofs.store.BankStore.repair.Goals as goal
 
 pub switch-requires : goal.switch-requires
