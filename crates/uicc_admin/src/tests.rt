@@ -288,18 +288,22 @@ fn files_go_and_grow(rt: HostRuntime) -> Result<(), Fail> {
 fn a_new_file_becomes_current(rt: HostRuntime) -> Result<(), Fail> {
     let tree = sample_tree(rt.alloc())?;
     let session = session_of(&tree, 0)?;
-    let made = decide(
+    let Decided {
+        answer: _,
+        session: moved,
+        change,
+    } = decide(
         &tree,
         &Allows(true),
         &session,
         b"\x00\xE0\x00\x00\x0D\x62\x0B\x82\x02\x41\x21\x83\x02\x6F\x0A\x80\x01\x05",
     )?;
-    let Some(Change::FileAdd { head }) = made.change else {
+    let Some(Change::FileAdd { head }) = change else {
         return Err(Fail::from("a new file"));
     };
     assert_eq!(rt; head.size, 5);
     assert_eq!(rt; head.sfi, 0x0A);
-    let after = made.session.own.ok_or("a channel")?;
+    let after = moved.own.ok_or("a channel")?;
     let chan = after.after.ok_or("an open channel")?;
     assert!(rt; chan.file == Some(Path::from_slice(&[0x7F10, 0x6F0A])));
     assert!(rt; chan.dir == Path::from_slice(&[0x7F10]));
