@@ -226,9 +226,7 @@ fn content_with_application(alloc: Global) -> Result<Content, NoMemory> {
         )?,
         imsi(alloc)?,
     ];
-    let mut first = make_pin(1, 0x01);
-    first.value = *b"1234\xFF\xFF\xFF\xFF";
-    let pins = [first, make_pin(2, 0x0A)];
+    let pins = [make_pin(1, 0x01), make_pin(2, 0x0A)];
     Ok(Content {
         rows: LongList::from(Vec::from_array(alloc, rows)?),
         pins: LongList::from(Vec::from_array(alloc, pins)?),
@@ -285,7 +283,7 @@ fn a_modem_finds_the_application(rt: HostRuntime) -> Result<(), Fail> {
             0x9000,
         ),
         (b"\x00\xB0\x87\x00\x09", b"", 0x6982),
-        (b"\x00\x20\x00\x01\x081234\xFF\xFF\xFF\xFF", b"", 0x9000),
+        (b"\x00\x20\x00\x01\x0888888888", b"", 0x9000),
         (b"\x00\xB0\x87\x00\x09", IMSI, 0x9000),
         (b"\x80\xF2\x00\x00\x00", USIM_PARAMETERS, 0x9000),
         (

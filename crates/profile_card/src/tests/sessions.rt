@@ -77,66 +77,6 @@ fn the_isdr_knows_six_instructions(rt: HostRuntime) -> Result<(), Fail> {
     Ok(())
 }
 
-// The numbers from 0 on, modulo 256.
-fn counting(alloc: Global, length: u32) -> Result<Vec<u8>, NoMemory>
-    requires { length ≤ 65504 }
-    ensures { IfOk result (λ bytes. length bytes.items ≡ length) }
-{
-    let mut bytes = Vec::new(alloc);
-    for index in 0..length {
-        bytes.push((index % 256) as u8)?;
-    }
-    Ok(bytes)
-}
-
-// An MF with an EF ARR and a transparent file of 300 bytes.
-fn content_of_300_bytes(alloc: Global) -> Result<Content, NoMemory> {
-    let mut rules = make_row(alloc, &[0x2F06], Kind::Linear, Life::Active, b"", RULES)?;
-    rules.head.record_len = 11;
-    let body = counting(alloc, 300)?;
-    let file = make_row(
-        alloc,
-        &[0x6F10],
-        Kind::Transparent,
-        Life::Active,
-        b"",
-        &body,
-    )?;
-    let master = make_row(alloc, &[], Kind::Master, Life::Active, b"", b"")?;
-    Ok(Content {
-        rows: LongList::from(Vec::from_array(alloc, [master, rules, file])?),
-        pins: LongList::from(Vec::new(alloc)),
-    })
-}
-
-#[test]
-fn a_file_of_300_bytes_is_read(rt: HostRuntime) -> Result<(), Fail> {
-    let content = content_of_300_bytes(rt.alloc())?;
-    if !content.is_valid() {
-        return Err(Fail::from("no card may hold this content"));
-    }
-    let mut card = start(rt.alloc(), &content)?;
-    let bytes = content.rows.as_slice()[2].body.as_slice();
-    assert_eq!(rt; ask(&mut card, b"\x00\xA4\x00\x0C\x02\x6F\x10")?.sw, Sw::OK);
-    let first = ask(&mut card, b"\x00\xB0\x00\x00\x00")?;
-    assert_eq!(rt;
-        first.body.as_slice() == &bytes[..256] && first.sw == Sw::OK,
-        true
-    );
-    let rest = ask(&mut card, b"\x00\xB0\x01\x00\x00")?;
-    assert_eq!(rt;
-        rest.body.as_slice() == &bytes[..44] && rest.sw == Sw::OK,
-        true
-    );
-    let rows: [Case; 3] = [
-        (b"\x00\xB0\x01\x2B\x01", b"\x2B", 0x9000),
-        (b"\x00\xB0\x01\x2C\x01", b"", 0x6B00),
-        (b"\x00\xB0\x01\x00\x2D", b"", 0x6C2C),
-    ];
-    assert_eq!(rt; first_other(&mut card, &rows)?, None);
-    Ok(())
-}
-
 const CREATE_ROWS: [Case; 6] = [
     (b"\x00\x20\x00\x0A\x0888888888", b"", 0x9000),
     (
