@@ -9,8 +9,9 @@ use Rattle.access_rules.specs.declared.fault.RuleFault.TheVariants.{Malformed}
 use Rattle.access_rules.specs.Condition.{Condition, Conditions, all_hold, holds, one_holds}
 use Rattle.access_rules.specs.Condition.Condition.{AllOf, Always, Key, Never, OneOf}
 use Rattle.access_rules.specs.Condition.Conditions.{Also, NoMore}
-use Rattle.access_rules.specs.Reading.{Read, condition_of, conditions_by, empty_or_none, key_of, object_at, objects_of}
-use Rattle.access_rules.proofs.Objects.{IsThere, eqb-not, no_objects, no_step, object_there, objects_step, of_some, not_tag}
+use Rattle.ber_tlv.specs.Objects.{Read, object_at, objects_of}
+use Rattle.access_rules.specs.Reading.{condition_of, conditions_by, empty_or_none, key_of}
+use Rattle.ber_tlv.proofs.ObjectLemmas.{IsThere, eqb-not, no_objects, no_step, object_there, objects_step, of_some, not_tag}
 use Rattle.ber_tlv.proofs.Walking.{shorter}
 
 pub fault_is : {A : Type 0} (o : Option A) (e : RuleFault) → Err e ≡ ok_or o Malformed → (o ≡ None) × (e ≡ Malformed)

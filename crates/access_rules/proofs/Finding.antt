@@ -11,7 +11,7 @@ use Rattle.file_rows.specs.declared.pin.PinRow.{PinRow}
 use Rattle.access_rules.specs.May.{enclosing}
 use Rattle.access_rules.specs.Met.{pin_at, pin_for}
 use Rattle.file_rows.specs.PinRow.{is_verified}
-use Rattle.access_rules.proofs.Objects.{by_test, ltb-not}
+use Rattle.ber_tlv.proofs.ObjectLemmas.{by_test, ltb-not}
 
 high_bit : (v b : ℕ) → v < 2 ^ 32 → 32 ≤ b → bit_at v b ≡ 0
 high_bit v b h k =

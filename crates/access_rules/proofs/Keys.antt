@@ -8,8 +8,9 @@ use Rattle.std.proofs.lemmas.Grind.{common_steps}
 use Rattle.ber_tlv.specs.Walk.{LeadWith, Object}
 use Rattle.access_rules.specs.declared.fault.RuleFault.{RuleFault}
 use Rattle.access_rules.specs.declared.fault.RuleFault.TheVariants.{Malformed}
-use Rattle.access_rules.specs.Reading.{Read, byte_of, key_of, object_at, objects_of}
-use Rattle.access_rules.proofs.Objects.{by_test, eqb-is, eqb-not, no_objects, no_step, objects_fill, objects_step, of_some}
+use Rattle.ber_tlv.specs.Objects.{Read, object_at, objects_of}
+use Rattle.access_rules.specs.Reading.{byte_of, key_of}
+use Rattle.ber_tlv.proofs.ObjectLemmas.{by_test, eqb-is, eqb-not, no_objects, no_step, objects_fill, objects_step, of_some}
 
 pub none_read : (n key : ℕ) → get_or (replicate n false) key false ≡ false
 none_read zero key = refl

@@ -3,5 +3,4 @@ pub mod Finding
 pub mod Keeping
 pub mod Keys
 pub mod Meaning
-pub mod Objects
 pub mod Passing

@@ -11,9 +11,10 @@ use Rattle.access_rules.specs.AccessRule.Modes.{Bits, Instructions}
 use Rattle.access_rules.specs.Condition.{Condition, Conditions, depth, greatest_depth}
 use Rattle.access_rules.specs.Condition.Condition.{AllOf, Always, Key, Never, OneOf}
 use Rattle.access_rules.specs.Condition.Conditions.{Also, NoMore}
-use Rattle.access_rules.specs.Reading.{Read, asks_for_user, byte_of, codes_of, condition_of, conditions_by, empty_or_none, key_of, modes_of, object_at, objects_of, leading_rule, rule_with, rules_in, rules_of}
+use Rattle.ber_tlv.specs.Objects.{Read, object_at, objects_of}
+use Rattle.access_rules.specs.Reading.{asks_for_user, byte_of, codes_of, condition_of, conditions_by, empty_or_none, key_of, modes_of, leading_rule, rule_with, rules_in, rules_of}
 use Rattle.access_rules.specs.Record.{AreConditions, BeginsWithRule, IsCondition, IsModes, SpellsRules, key_objects}
-use Rattle.access_rules.proofs.Objects.{IsThere, Sound, and_then, by_test, eqb-is, eqb-not, mapped, none, object_read, object_there, objects_fill, objects_read, of_some, same_values, some, weaken, not_tag}
+use Rattle.ber_tlv.proofs.ObjectLemmas.{IsThere, Sound, and_then, by_test, eqb-is, eqb-not, mapped, none, object_read, object_there, objects_fill, objects_filled, of_some, same_values, some, weaken, not_tag}
 
 empty_there : {X : Type 0} (P : X → Type 0) (bytes : List ℕ) (x : X) → (bytes ≡ [] → P x) → Sound P (empty_or_none bytes x)
 empty_there P [] x h = some P x (h refl)
@@ -113,10 +114,6 @@ conditions_read one n h (o ∷ objects) (Also c cs) p k =
     ap (option_and_then (λ condition. option_map (Also condition) (conditions_by one objects))) e
     ∙ ap (option_map (Also c)) i
 
-filled : (bytes : List ℕ) (objects : List Object) → LeadWith bytes objects [] → objects_of bytes ≡ Some objects
-unfolding objects_of
-filled bytes objects p = objects_read objects (length bytes) bytes (omega arith) p
-
 empty_read : (bytes : List ℕ) (c : Condition) → bytes ≡ [] → empty_or_none bytes c ≡ Some c
 empty_read [] c e = refl
 empty_read (b ∷ bytes) c e = absurd (cc)
@@ -134,19 +131,19 @@ condition_read (suc n) o Never p h =
 condition_read (suc n) o (Key key) p h =
     cond-false _ _ _ (not_tag o.tag 0xA4 0x90 p.0 refl) ∙ cond-false _ _ _ (not_tag o.tag 0xA4 0x97 p.0 refl)
     ∙ cond-true _ _ _ (eq-eqb o.tag 0xA4 p.0)
-    ∙ ap (λ os. option_map Key (option_and_then key_of os)) (filled o.value (key_objects key) p.1)
+    ∙ ap (λ os. option_map Key (option_and_then key_of os)) (objects_filled o.value (key_objects key) p.1)
     ∙ ap (option_map Key) (key_read key)
 condition_read (suc n) o (OneOf cs) p h =
     cond-false _ _ _ (not_tag o.tag 0xA0 0x90 p.0 refl) ∙ cond-false _ _ _ (not_tag o.tag 0xA0 0x97 p.0 refl)
     ∙ cond-false _ _ _ (not_tag o.tag 0xA0 0xA4 p.0 refl)
     ∙ cond-true _ _ _ (eq-eqb o.tag 0xA0 p.0)
-    ∙ ap (λ os. option_map OneOf (option_and_then (conditions_by (condition_of n)) os)) (filled o.value p.1.0 p.1.1)
+    ∙ ap (λ os. option_map OneOf (option_and_then (conditions_by (condition_of n)) os)) (objects_filled o.value p.1.0 p.1.1)
     ∙ ap (option_map OneOf) (conditions_read (condition_of n) n (condition_read n) p.1.0 cs p.1.2 (omega arith))
 condition_read (suc n) o (AllOf cs) p h =
     cond-false _ _ _ (not_tag o.tag 0xAF 0x90 p.0 refl) ∙ cond-false _ _ _ (not_tag o.tag 0xAF 0x97 p.0 refl)
     ∙ cond-false _ _ _ (not_tag o.tag 0xAF 0xA4 p.0 refl) ∙ cond-false _ _ _ (not_tag o.tag 0xAF 0xA0 p.0 refl)
     ∙ cond-true _ _ _ (eq-eqb o.tag 0xAF p.0)
-    ∙ ap (λ os. option_map AllOf (option_and_then (conditions_by (condition_of n)) os)) (filled o.value p.1.0 p.1.1)
+    ∙ ap (λ os. option_map AllOf (option_and_then (conditions_by (condition_of n)) os)) (objects_filled o.value p.1.0 p.1.1)
     ∙ ap (option_map AllOf) (conditions_read (condition_of n) n (condition_read n) p.1.0 cs p.1.2 (omega arith))
 
 -- the modes

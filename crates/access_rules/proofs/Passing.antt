@@ -11,9 +11,10 @@ use Rattle.file_rows.specs.declared.mode.Mode.{Mode}
 use Rattle.access_rules.specs.AccessRule.{AccessRule, Modes, allows, answer_of, covers}
 use Rattle.access_rules.specs.AccessRule.Modes.{Bits}
 use Rattle.access_rules.specs.Condition.{holds}
-use Rattle.access_rules.specs.Reading.{Read, byte_of, codes_of, condition_of, modes_of, object_at, leading_rule, rule_with, rules_of}
+use Rattle.ber_tlv.specs.Objects.{Read, object_at}
+use Rattle.access_rules.specs.Reading.{byte_of, codes_of, condition_of, modes_of, leading_rule, rule_with, rules_of}
 use Rattle.access_rules.specs.Record.{HasNoMore}
-use Rattle.access_rules.proofs.Objects.{eqb-not, of_some, not_tag}
+use Rattle.ber_tlv.proofs.ObjectLemmas.{eqb-not, of_some, not_tag}
 use Rattle.access_rules.proofs.Meaning.{HasRule, ended, no_rule, no_rules, rule_shorter, rule_there, rules_step}
 
 module _ (mode : Mode) (o : Object) where

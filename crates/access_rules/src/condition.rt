@@ -4,7 +4,8 @@ ghost use Rattle.std.specs.Option.{ok_or};
 ghost use Rattle.ber_tlv.specs.Walk.{object_of};
 ghost use Rattle.access_rules.specs.Condition.{all_hold, holds, one_holds};
 ghost use Rattle.access_rules.specs.KeySet.{has};
-ghost use Rattle.access_rules.specs.Reading.{condition_of, conditions_by, key_of, objects_of};
+ghost use Rattle.ber_tlv.specs.Objects.{objects_of};
+ghost use Rattle.access_rules.specs.Reading.{condition_of, conditions_by, key_of};
 
 use crate::object::{first_object, only_byte, where_empty};
 use crate::{KeySet, RuleFault};

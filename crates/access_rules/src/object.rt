@@ -2,7 +2,8 @@
 ghost use Rattle.std.specs.Prelude.{◌≡◌, MatchResult};
 ghost use Rattle.std.specs.Option.{ok_or};
 ghost use Rattle.ber_tlv.specs.Walk.{object_of};
-ghost use Rattle.access_rules.specs.Reading.{byte_of, empty_or_none, object_at};
+ghost use Rattle.ber_tlv.specs.Objects.{object_at};
+ghost use Rattle.access_rules.specs.Reading.{byte_of, empty_or_none};
 
 use crate::RuleFault;
 use ber_tlv::{Tlv, read_tlv};

@@ -10,7 +10,8 @@ ghost use Rattle.access_rules.specs.AccessRule.Modes.{Bits};
 ghost use Rattle.access_rules.specs.Condition.{holds};
 ghost use Rattle.access_rules.specs.KeySet.{has};
 ghost use Rattle.access_rules.specs.May.{record_allows};
-ghost use Rattle.access_rules.specs.Reading.{Read, codes_of, modes_of, leading_rule, rules_of};
+ghost use Rattle.ber_tlv.specs.Objects.{Read};
+ghost use Rattle.access_rules.specs.Reading.{codes_of, modes_of, leading_rule, rules_of};
 ghost use Rattle.access_rules.specs.Record.{HasNoMore};
 ghost use Rattle.access_rules.specs.Rules.{list_of};
 

@@ -2,3 +2,4 @@ pub mod Reading
 pub mod Refusal
 pub mod Prefixes
 pub mod Walking
+pub mod ObjectLemmas

@@ -4,3 +4,4 @@ pub mod Length
 pub mod Parts
 pub mod Tlv
 pub mod Walk
+pub mod Objects

@@ -1,6 +1,7 @@
 //! What holds of the coding, whoever reads or writes it.
-ghost use Rattle.std.specs.Prelude.{◌≡◌, ℕ, ◌<◌, ◌≤◌, ◌^◌, List, ◌++◌, length, Result};
+ghost use Rattle.std.specs.Prelude.{◌≡◌, ◌↔◌, ℕ, ◌<◌, ◌≤◌, ◌^◌, List, [], ◌++◌, length, Some, Result};
 ghost use Rattle.std.specs.List.{AllByRecursion};
+ghost use Rattle.ber_tlv.specs.Objects.{Read, object_at, objects_of};
 ghost use Rattle.ber_tlv.specs.Tag.{IsTag};
 ghost use Rattle.ber_tlv.specs.Tlv.{SpellsObject, BeginsWith, shortest};
 ghost use Rattle.ber_tlv.specs.Walk.{Object, Walks, LeadWith, spelled};
@@ -37,4 +38,14 @@ pub fn written_list_is_read()
 pub fn one_walk()
     ensures { (bytes : List ℕ) (xs ys : List (Result Object TlvFault)) → Walks bytes xs
         → Walks bytes ys → xs ≡ ys }
+{}
+
+/// Read from the first byte on, an object is found just where one stands there, and objects that
+/// fill the bytes just where they are those.
+pub fn reading_finds_what_stands_there()
+    ensures object { (bytes : List ℕ) (read : Read Object)
+        → (object_at bytes ≡ Some read)
+        ↔ BeginsWith bytes read.found.tag read.found.value read.behind }
+    ensures objects { (bytes : List ℕ) (objects : List Object)
+        → (objects_of bytes ≡ Some objects) ↔ LeadWith bytes objects [] }
 {}

@@ -9,7 +9,10 @@ mod walk;
 mod write;
 
 pub use fault::TlvFault;
-pub use laws::{fewest_bytes, one_reading, one_walk, written_is_read, written_list_is_read};
+pub use laws::{
+    fewest_bytes, one_reading, one_walk, reading_finds_what_stands_there, written_is_read,
+    written_list_is_read,
+};
 pub use read::{Tlv, read_tlv};
 pub use walk::Walk;
 pub use write::put_tlv;

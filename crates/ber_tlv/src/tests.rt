@@ -68,4 +68,5 @@ fn the_laws_of_the_coding_are_callable() {
     fewest_bytes();
     written_list_is_read();
     one_walk();
+    reading_finds_what_stands_there();
 }

@@ -31,7 +31,7 @@ use Rattle.uicc_channels.specs.declared.chan.Chan.{Chan}
 use Rattle.uicc_channels.specs.declared.session.Session.{Session}
 use Rattle.uicc_admin.proofs.NamedLemmas.{and_then_found, child_found, only_found}
 use Rattle.uicc_admin.proofs.SuitsLemmas.{open_within}
-use Rattle.uicc_admin.specs.Delete.{directory_itself, directory_left, file_to_delete, is_named_below, is_used_elsewhere, leaving, left_by, may_be_deleted, named_to_delete, stands_there}
+use Rattle.uicc_admin.specs.Delete.{directory_itself, directory_left, file_to_delete, is_named_below, is_used_elsewhere, leaving, channel_left, may_be_deleted, named_to_delete, stands_there}
 
 either_found : (one other : Option FileRow) (row : FileRow) → option_or one other ≡ Some row → (one ≡ Some row) ⊎ (other ≡ Some row)
 either_found None other row e = inr e
@@ -216,10 +216,10 @@ module _ (content : Content) (system : IsFileSystem content) (row : FileRow) (ma
       either true = directory_of_file content.rows row system.files may.among (deletable_not_master row.head.kind may.kind)
       either false = is
 
-  pub nothing_named : (chan : Chan) → StandsAmong content.rows chan → stands_there top (Some (left_by top chan)) ≡ false
+  pub nothing_named : (chan : Chan) → StandsAmong content.rows chan → stands_there top (Some (channel_left top chan)) ≡ false
   nothing_named chan stands = rw (left_outside chan.dir, named_outside chan.app stands.app) refl
 
-  own_stands : (chan : Chan) → StandsAmong content.rows chan → StandsAmong (left_rows content top) (left_by top chan)
+  own_stands : (chan : Chan) → StandsAmong content.rows chan → StandsAmong (left_rows content top) (channel_left top chan)
   own_stands chan stands = record {
     app = named_left content top (λ row. row.head.kind ≡ Application) chan.app (named_outside chan.app stands.app) stands.app;
     dir = dir_left content top (directory_left top chan.dir) (left_outside chan.dir) (left_there chan.dir stands.dir);
@@ -229,7 +229,7 @@ module _ (content : Content) (system : IsFileSystem content) (row : FileRow) (ma
 
   module _ (session : Session) (suits : Suits session content.rows) (channel : ℕ) (is_open : IsOpen session channel) (unused : is_used_elsewhere session channel top ≡ false) where
     abbrev after : Option Chan
-    after = Some (left_by top (open_channel session channel))
+    after = Some (channel_left top (open_channel session channel))
 
     -- the channel of the command, and each other one
     pub by_channel : (P : Option Chan → Type 0) → P after → ((number : ℕ) → number ≢ channel → P (channel_at session number)) → (number : ℕ) → P (channel_at (leaving session channel top) number)

@@ -4,6 +4,7 @@ use Rattle.std.proofs.lemmas.Bool.{true≢false}
 use Rattle.std.specs.Prelude.{◌==◌, IsNone}
 use Rattle.std.proofs.Common.{length}
 use Rattle.apdu_codec.specs.Command.{Apdu}
+use Rattle.apdu_codec.specs.declared.status.Sw.{Sw}
 use Rattle.apdu_codec.specs.declared.status.TheConstants.Sw.{CONDITIONS_NOT_SATISFIED, FILE_NOT_FOUND}
 use Rattle.file_rows.proofs.ChangeLemmas.{gone, others}
 use Rattle.file_rows.proofs.ConditionLemmas.{fits_where}
@@ -16,7 +17,7 @@ use Rattle.file_rows.specs.declared.mode.Mode.{Mode}
 use Rattle.file_rows.specs.declared.row.FileRow.{FileRow}
 use Rattle.uicc_channels.proofs.SessionLemmas.{channel_at-with_channel}
 use Rattle.uicc_channels.specs.CarriesOut.{CanCarryOut, content_after}
-use Rattle.uicc_channels.specs.CommandOutcome.{CommandOutcome}
+use Rattle.uicc_channels.specs.CommandOutcome.{CommandOutcome, refused}
 use Rattle.uicc_channels.specs.CommandRow.{decided, refusal_of}
 use Rattle.uicc_channels.specs.Needs.{Needs, needs_of}
 use Rattle.uicc_channels.specs.Session.{Suits, channel_at, open_channel}
@@ -85,3 +86,10 @@ other_channels-delete rows allowed session c number apart =
     at_file-has (λ (outcome : CommandOutcome). channel_at outcome.session number ≡ channel_at session number) session (λ sw. refl) (needs_of_delete session c) allowed
     FILE_NOT_FOUND (deleting session c) (named_to_delete rows (open_channel session c.channel) c.body)
     (λ row at channel kind own. channel_at-with_channel session c.channel number _ apart)
+
+-- DELETE FILE refuses, or takes the file that it names away
+pub delete-has : (P : CommandOutcome → Type 0) (rows : List FileRow) (session : Session) (c : Apdu) (where_refused : (sw : Sw) → P (refused session sw)) (allowed : List ℕ → Mode → Bool)
+    → ((row : FileRow) → named_to_delete rows (open_channel session c.channel) c.body ≡ Some row → P (deleting session c row).done) → P (decided session (delete_row rows allowed session c))
+delete-has P rows session c where_refused allowed holds =
+    at_file-has P session where_refused (needs_of_delete session c) allowed FILE_NOT_FOUND (deleting session c) (named_to_delete rows (open_channel session c.channel) c.body)
+    (λ row at channel kind own. holds row at)

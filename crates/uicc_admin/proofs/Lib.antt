@@ -13,3 +13,4 @@ pub mod SuitsLemmas
 pub mod TemplateLemmas
 pub mod OthersLemmas
 pub mod RefusedLemmas
+pub mod ReachLemmas

@@ -4,8 +4,8 @@ use Rattle.std.proofs.lemmas.Bool.{true≢false}
 use Rattle.std.proofs.lemmas.Bool.Decides.{Decides-eqb}
 use Rattle.std.specs.Option.{option_and_then}
 use Rattle.std.specs.Prelude.{◌==◌, Result}
-use Rattle.access_rules.proofs.Objects.{objects_fill, objects_read, of_some}
-use Rattle.access_rules.specs.Reading.{object_at, objects_of}
+use Rattle.ber_tlv.proofs.ObjectLemmas.{objects_fill, objects_filled, of_some}
+use Rattle.ber_tlv.specs.Objects.{object_at, objects_of}
 use Rattle.ber_tlv.specs.Walk.{LeadWith, Object}
 use Rattle.file_rows.proofs.PathLemmas.{is_false}
 use Rattle.fcp_codec.specs.Reading.{NoneIsBad, ReadsAsFcp, ReadsFcp, fcp_of, is_bad}
@@ -28,13 +28,9 @@ of_good before (object ∷ objects) e =
     let parts = split (is_bad before object) (are_good (before ++ object ∷ []) objects) e in
     (parts.0, of_good (before ++ object ∷ []) objects parts.1)
 
-all_objects : (value : List ℕ) (objects : List Object) → LeadWith value objects [] → objects_of value ≡ Some objects
-unfolding objects_of
-all_objects value objects whole = objects_read objects (length value) value (omega arith) whole
-
 -- what is read is in the value
 pub fields_read : (value : List ℕ) (fcp : Fcp) → ReadsAsFcp value fcp → Some fcp ≡ fields_in value
-fields_read value fcp reads = rw (all_objects value reads.objects reads.whole, good_of [] reads.objects reads.good) (ap (λ (f : Fcp). Some f) reads.says)
+fields_read value fcp reads = rw (objects_filled value reads.objects reads.whole, good_of [] reads.objects reads.good) (ap (λ (f : Fcp). Some f) reads.says)
 
 good_fields : (objects : List Object) (b : Bool) → are_good [] objects ≡ b → (fcp : Fcp) → cond b (Some (fcp_of objects)) None ≡ Some fcp → (are_good [] objects ≡ true) × (fcp ≡ fcp_of objects)
 good_fields objects true is fcp e = (is, cc)

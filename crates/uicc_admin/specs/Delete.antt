@@ -82,13 +82,13 @@ directory_left top directory =
     if stands_below top directory then unwrap_or (parent_of top) master else directory
 
 -- the channel afterwards: it stands at a directory, with no EF
-abbrev pub left_by : List ℕ → Chan → Chan
-left_by top chan = record chan { dir = directory_left top chan.dir; file = None; pointer = 0 }
+abbrev pub channel_left : List ℕ → Chan → Chan
+channel_left top chan = record chan { dir = directory_left top chan.dir; file = None; pointer = 0 }
 
 -- the session when a file is gone
 abbrev pub leaving : Session → ℕ → List ℕ → Session
 leaving session channel top =
-    with_channel session channel (Some (left_by top (open_channel session channel)))
+    with_channel session channel (Some (channel_left top (open_channel session channel)))
 
 -- a file goes, with all below it
 abbrev pub deleting : Session → Apdu → FileRow → FileWork

@@ -7,3 +7,4 @@ pub mod NamedFile
 pub mod Pointers
 pub mod Resize
 pub mod Template
+pub mod Administered

@@ -1,6 +1,6 @@
 -- The template 62 of file control parameters as the body of a command (ETSI TS 102 222).
 use Rattle.std.specs.Prelude.{ℕ, Bool, true, not, ◌==◌, ◌&&◌, if◌then◌else◌, List, [], ◌∷◌, ◌++◌, length, Option, Some, None, option_and_then}
-use Rattle.access_rules.specs.Reading.{Read, object_at, objects_of}
+use Rattle.ber_tlv.specs.Objects.{Read, object_at, objects_of}
 use Rattle.ber_tlv.specs.Walk.{Object}
 use Rattle.fcp_codec.specs.Reading.{fcp_of, is_bad}
 use Rattle.fcp_codec.specs.declared.fcp.Fcp.{Fcp}

@@ -10,7 +10,7 @@ ghost use Rattle.uicc_channels.specs.Session.{IsOpen, channel_at};
 ghost use Rattle.uicc_channels.specs.SessionChange.{no_change, session_after};
 ghost use Rattle.uicc_tree.specs.Access.{AnswersFor};
 ghost use Rattle.uicc_tree.specs.Files.{Gives, IsLive, file_of, rows_of};
-ghost use Rattle.uicc_admin.specs.Delete.{delete_row, deletion_refusal, directory_itself, directory_left, ef_life_refusal, file_to_delete, is_named_below, is_used_elsewhere, leaving, left_by, may_be_deleted, named_to_delete, stands_there};
+ghost use Rattle.uicc_admin.specs.Delete.{delete_row, deletion_refusal, directory_itself, directory_left, ef_life_refusal, file_to_delete, is_named_below, is_used_elsewhere, leaving, channel_left, may_be_deleted, named_to_delete, stands_there};
 
 use crate::named_file::{find_child, has_no_parameters, id_of};
 use apdu_codec::{Command, Sw, class_fits};
@@ -142,8 +142,8 @@ fn directory_left(top: &Path, directory: &Path) -> Path
 }
 
 // The channel when a file is gone.
-fn left_by(top: &Path, chan: &Chan) -> Chan
-    ensures { result ≡ left_by top.now chan.now }
+fn channel_left(top: &Path, chan: &Chan) -> Chan
+    ensures { result ≡ channel_left top.now chan.now }
 {
     let mut after = chan.copy();
     after.dir = directory_left(top, &chan.dir);
@@ -160,7 +160,7 @@ fn leave(session: &Session, channel: u8, top: &Path, change: &mut SessionChange)
 {
     change.own = Some(ChannelChange {
         channel,
-        after: Some(left_by(top, session.open_channel(channel))),
+        after: Some(channel_left(top, session.open_channel(channel))),
     });
 }
 

@@ -17,7 +17,8 @@ ghost use Rattle.uicc_channels.specs.CommandRow.{decided, refusal_of};
 ghost use Rattle.uicc_channels.specs.Session.{IsOpen, Suits, channel_at, open_channel};
 ghost use Rattle.uicc_channels.specs.declared.chan.Chan.{Chan};
 ghost use Rattle.uicc_channels.specs.declared.session.Session.{Session};
-ghost use Rattle.uicc_admin.specs.Administration.{admin_row};
+ghost use Rattle.uicc_admin.specs.Administered.{IsAdministered};
+ghost use Rattle.uicc_admin.specs.Administration.{admin_row, is_administration};
 ghost use Rattle.uicc_admin.specs.Create.{create_row, file_asked};
 ghost use Rattle.uicc_admin.specs.Delete.{delete_row, named_to_delete, stands_there};
 ghost use Rattle.uicc_admin.specs.FileState.{activate_row, deactivate_row, state_row, terminate_row};
@@ -164,4 +165,17 @@ pub fn resized_files_change_alone()
         ≡ Some chan
         → chan.file ≡ Some row.head.path
         → chan.pointer ≤ asked.size / row.head.record_len }
+{}
+
+/// No file that is there is changed by a command of administration but the one that it works on:
+/// the EF that it names or the current one, and with DELETE FILE all that is below it.
+pub fn administration_changes_what_it_names()
+    ensures { (content : Content) (allowed : List ℕ → Mode → Bool) (session : Session) (c : Apdu)
+        (path : List ℕ) (row : FileRow) → IsValid content → Suits session content.rows
+        → is_administration c.ins ≡ true
+        → file_at path content.rows ≡ Some row
+        → ¬ IsAdministered content.rows (open_channel session c.channel) c path
+        → file_at path (content_after content
+        (decided session (admin_row content.rows allowed session c)).change).rows
+        ≡ Some row }
 {}

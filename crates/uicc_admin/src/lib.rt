@@ -18,8 +18,9 @@ pub use delete::delete_file;
 pub use dispatch::admin_command;
 pub use file_state::{activate_file, deactivate_file, terminate_ef};
 pub use laws::{
-    cards_carry_out_administration, created_files_come_alone, deleted_files_are_gone,
-    refused_administration_changes_nothing, resized_files_change_alone, states_change_alone,
+    administration_changes_what_it_names, cards_carry_out_administration, created_files_come_alone,
+    deleted_files_are_gone, refused_administration_changes_nothing, resized_files_change_alone,
+    states_change_alone,
 };
 pub use resize::{NewSize, resize_file};
 

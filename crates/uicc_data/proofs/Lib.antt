@@ -17,3 +17,4 @@ pub mod TestLemmas
 pub mod UsageLemmas
 pub mod WriteLemmas
 pub mod DoneLemmas
+pub mod RecordBackLemmas

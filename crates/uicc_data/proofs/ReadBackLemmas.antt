@@ -79,7 +79,7 @@ module _ (write : List ℕ → List ℕ) where
       either false f = found_written (λ head. is_in directory head.path && (head.sfi == sfi)) rows row f
 
   -- a command by the same reference works on that file
-  named_written : (rows : List FileRow) (chan : Chan) (pointer : ℕ) (file : FileReference) (row : FileRow) → IsAmong rows row → file_named rows chan file ≡ Some row
+  pub named_written : (rows : List FileRow) (chan : Chan) (pointer : ℕ) (file : FileReference) (row : FileRow) → IsAmong rows row → file_named rows chan file ≡ Some row
       → file_named (written_rows row.head.path write rows) (standing_on row.head.path pointer chan) file ≡ Some (with_body write row)
   named_written rows chan pointer CurrentEf row among named = found_written (λ head. same_path head.path row.head.path) rows row among
   named_written rows chan pointer (Sfi sfi) row among named = child_written rows chan.dir sfi row named
@@ -109,7 +109,7 @@ module _ (rows : List FileRow) (allowed : List ℕ → Mode → Bool) (session :
       (file_named rows (open_channel session c.channel) place.file)
       (λ row named channel lengths kind own same. (place, at, record { row = row; named = named; is_open = channel; own = own; made = cc; left = refl })))
 
-done_where_taken : (session : Session) (row : CommandRow) → refusal_of row ≡ None → decided session row ≡ row.done
+pub done_where_taken : (session : Session) (row : CommandRow) → refusal_of row ≡ None → decided session row ≡ row.done
 done_where_taken session row taken = ap (λ (refusal : Option Sw). refused_or refusal session row.done) taken
 
 -- what a READ BINARY that isn't refused gives, by its place and its file
@@ -123,7 +123,7 @@ read_body rows allowed session c place row le at named wanted taken =
     ∙ ap (λ (o : Option FileRow). (on_file (needs_of_reading session c) session allowed (not_there place.file) (reading session c place) o).done.answer.body) named
     ∙ ap (λ (o : Option ℕ). take (unwrap_or o 0) (drop place.offset row.body)) wanted
 
-stands_there : (session : Session) (number : ℕ) (path : List ℕ) (pointer : ℕ) → IsOpen session number
+pub stands_there : (session : Session) (number : ℕ) (path : List ℕ) (pointer : ℕ) → IsOpen session number
     → open_channel (using session number path pointer) number ≡ standing_on path pointer (open_channel session number)
 stands_there session number path pointer is_open =
     rw (channel_at-with_channel_same session number (Some (standing_on path pointer (open_channel session number))) (within session number is_open)) refl

@@ -49,7 +49,7 @@ bare_records Transparent e = absurd (cc)
 bare_records Linear e = refl
 bare_records Cyclic e = refl
 
-updatable : (kind : Kind) (previous : Bool) → (is_linear kind || (is_cyclic kind && previous)) ≡ true → has_records kind ≡ true
+pub updatable : (kind : Kind) (previous : Bool) → (is_linear kind || (is_cyclic kind && previous)) ≡ true → has_records kind ≡ true
 updatable Master previous e = absurd (cc)
 updatable Directory previous e = absurd (cc)
 updatable Application previous e = absurd (cc)
@@ -85,9 +85,9 @@ pub if_some : (P : ℕ → Type 0) (o : Option ℕ) (x : ℕ) → IfSome o P →
 if_some P o x said e = subst (λ (o : Option ℕ). IfSome o P) e said
 
 -- where UPDATE RECORD writes there is a record, or it writes a new one into a cyclic file
-record IsWritable (head : FileHead) (place : WritePlace) : Type 0 where
-  number : HasRecord head place.number ⊎ ((place.number ≡ 0) × (head.kind ≡ Cyclic))
-  pointer : IsPointerIn head place.pointer
+pub record IsWritable (head : FileHead) (place : WritePlace) : Type 0 where
+  pub number : HasRecord head place.number ⊎ ((place.number ≡ 0) × (head.kind ≡ Cyclic))
+  pub pointer : IsPointerIn head place.pointer
 
 module _ (row : FileRow) (before : ℕ) (name : RecordName) (whole : HoldsWholeRecords row) (is : IsPointerIn row.head before) where
   linear_place : (o : Option ℕ) (place : WritePlace) → IfSome o (HasRecord row.head)
@@ -97,7 +97,7 @@ module _ (row : FileRow) (before : ℕ) (name : RecordName) (whole : HoldsWholeR
       let same : record { number = number; pointer = pointer_after before name number } ≡ place = cc in
       subst (λ (place : WritePlace). IsWritable row.head place) same (record { number = inl there; pointer = pointer_after_in row.head before name number is there })
 
-  write_place_is : (place : WritePlace) → write_place row.head before name ≡ Some place → IsWritable row.head place
+  pub write_place_is : (place : WritePlace) → write_place row.head before name ≡ Some place → IsWritable row.head place
   write_place_is place e = either (is_cyclic row.head.kind) refl e
     where
       either : (goes : Bool) → is_cyclic row.head.kind ≡ goes
@@ -109,7 +109,7 @@ module _ (row : FileRow) (before : ℕ) (name : RecordName) (whole : HoldsWholeR
           (record { number = inr (refl, cyclic_kind row.head.kind goes); pointer = inr (has_record row 1 whole (omega arith) whole.first) })
       either false goes f = linear_place (record_in row.head before name) place (record_there row before name whole is) f
 
-exact_record : (row : FileRow) (bytes : List ℕ) → refused_unless (length bytes == row.head.record_len) WRONG_LENGTH ≡ None → length bytes ≡ row.head.record_len
+pub exact_record : (row : FileRow) (bytes : List ℕ) → refused_unless (length bytes == row.head.record_len) WRONG_LENGTH ≡ None → length bytes ≡ row.head.record_len
 exact_record row bytes e = (Decides-eqb (length bytes) row.head.record_len).0 (is_met (length bytes == row.head.record_len) WRONG_LENGTH e)
 
 module _ (content : Content) (valid : IsValid content) (session : Session) (suits : Suits session content.rows) (allowed : List ℕ → Mode → Bool) (c : Apdu) where

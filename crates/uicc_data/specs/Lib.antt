@@ -10,3 +10,4 @@ pub mod Record
 pub mod RecordWalk
 pub mod Search
 pub mod WorksOn
+pub mod RecordReadBack

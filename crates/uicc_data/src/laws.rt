@@ -1,4 +1,4 @@
-ghost use Rattle.std.specs.Prelude.{◌≡◌, ◌≤◌, ◌+◌, ◌^◌, ◌++◌, ℕ, Bool, List, length, Some, None, IsTrue};
+ghost use Rattle.std.specs.Prelude.{◌≡◌, ◌≢◌, ◌≤◌, ◌+◌, ◌^◌, ◌++◌, ℕ, Bool, List, length, Some, None, IsTrue};
 ghost use Rattle.apdu_codec.specs.Command.{Apdu};
 ghost use Rattle.file_rows.specs.Change.{with_body, with_record};
 ghost use Rattle.file_rows.specs.Content.{IsValid};
@@ -20,6 +20,7 @@ ghost use Rattle.uicc_data.specs.Moves.{MovesAlone, MovesAndWaits};
 ghost use Rattle.uicc_data.specs.Number.{sum_of, number_spelled};
 ghost use Rattle.uicc_data.specs.ReadBack.{ReadsBack, read_outcome};
 ghost use Rattle.uicc_data.specs.Record.{read_record_row, update_record_row};
+ghost use Rattle.uicc_data.specs.RecordReadBack.{ReadsRecordBack, record_read_outcome};
 ghost use Rattle.uicc_data.specs.RecordWalk.{record_bytes};
 ghost use Rattle.uicc_data.specs.Search.{holds_run, search_record_row};
 ghost use Rattle.uicc_data.specs.WorksOn.{WritesWhereItWorks};
@@ -108,6 +109,17 @@ pub fn written_bytes_are_read_back()
         → (read_outcome content allowed session write change read).answer.body ≡ write.body }
 {}
 
+/// What UPDATE RECORD wrote last as a record, READ RECORD gives by its number. A new record of a
+/// cyclic file is the first.
+pub fn written_records_are_read_back()
+    ensures { (content : Content) (allowed : List ℕ → Mode → Bool) (session : Session)
+        (write : Apdu) (change : Change) (read : Apdu) → IsValid content
+        → Suits session content.rows
+        → ReadsRecordBack content allowed session write change read
+        → (record_read_outcome content allowed session write change read).answer.body
+        ≡ write.body }
+{}
+
 /// Bytes hold others as a run just where they are what stands before it, the run, and what stands
 /// behind it.
 pub fn runs_stand_in_their_bytes()
@@ -127,13 +139,19 @@ pub fn sums_are_of_their_numbers()
         → 256 ^ length number ≤ number_spelled number + number_spelled addend }
 {}
 
-/// A record that is written is those bytes. A new record 1 of a cyclic file is those bytes, and
-/// each record before it is one further, up to the last, which goes.
+/// A record that is written is those bytes, and every other record stays. A new record 1 of a
+/// cyclic file is those bytes, and each record before it is one further, up to the last, which goes.
 pub fn written_records_stand_in_their_places()
     ensures written { (row : FileRow) (number : ℕ) (bytes : List ℕ)
         → length row.body ≡ row.head.size → HasRecord row.head number
         → length bytes ≡ row.head.record_len
         → record_bytes (with_body (with_record number bytes) row) number ≡ bytes }
+    ensures others { (row : FileRow) (number other : ℕ) (bytes : List ℕ)
+        → length row.body ≡ row.head.size → HasRecord row.head number
+        → HasRecord row.head other → other ≢ number
+        → length bytes ≡ row.head.record_len
+        → record_bytes (with_body (with_record number bytes) row) other
+        ≡ record_bytes row other }
     ensures first { (row : FileRow) (bytes : List ℕ) → length bytes ≡ row.head.record_len
         → record_bytes (with_body (with_record 0 bytes) row) 1 ≡ bytes }
     ensures later { (row : FileRow) (number : ℕ) (bytes : List ℕ)

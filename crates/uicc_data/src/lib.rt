@@ -28,7 +28,8 @@ pub use laws::{
     cards_carry_out_data_commands, data_commands_move_their_channel_alone,
     data_commands_write_where_they_work, reads_change_no_file,
     refused_data_commands_change_nothing, runs_stand_in_their_bytes, sums_are_of_their_numbers,
-    written_bytes_are_read_back, written_records_stand_in_their_places,
+    written_bytes_are_read_back, written_records_are_read_back,
+    written_records_stand_in_their_places,
 };
 pub use record_read::read_record;
 pub use record_update::{WritePlace, update_record};

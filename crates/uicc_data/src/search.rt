@@ -1,4 +1,5 @@
-ghost use Rattle.std.specs.Prelude.{◌≡◌, ◌+◌, ◌-◌, ◌<◌, ◌≤◌, ◌==◌, cond, ℕ, Bool, List, [], ◌∷◌, ◌++◌, length, Some, None, IsTrue, MatchResult};
+ghost use Rattle.std.specs.Prelude.{◌≡◌, ◌+◌, ◌-◌, ◌<◌, ◌≤◌, ◌==◌, cond, ℕ, Bool, List, [], ◌∷◌, ◌++◌, length, nat_eq, Some, None, IsTrue, MatchResult};
+ghost use Rattle.std.specs.List.{starts_with};
 ghost use Rattle.apdu_codec.specs.Command.{IsCommand, apdu_of};
 ghost use Rattle.file_rows.specs.FileHead.{HasRecord, has_records};
 ghost use Rattle.file_rows.specs.declared.mode.Mode.{Mode};
@@ -86,13 +87,24 @@ fn search_start(place: SearchPlace, pointer: u8) -> RecordName
     }
 }
 
+// Whether bytes begin with these others. Most don't begin with the same byte, so that this one is
+// looked at first.
+#[inline]
+fn begins_with(bytes: &[u8], run: &[u8]) -> bool
+    requires bytes { 1 ≤ length bytes.now }
+    requires run { 1 ≤ length run.now }
+    ensures { result ≡ starts_with nat_eq bytes.now run.now }
+{
+    run[0] == bytes[0] && bytes.starts_with(run)
+}
+
 // Whether bytes hold these others, of which there are some, as a run.
 fn holds_run(bytes: &[u8], run: &[u8]) -> bool
     requires { 1 ≤ length run.now }
     ensures { result ≡ holds_run run.now bytes.now }
 {
     for start in 0..bytes.len() {
-        if bytes[start..].starts_with(run) {
+        if begins_with(&bytes[start..], run) {
             return true;
         }
     }

@@ -1,7 +1,7 @@
 use Rattle.std.proofs.Common.{drop}
 use Rattle.std.proofs.lemmas.List.{take_rest}
 use Rattle.ber_tlv.specs.Walk.{object_of}
-use Rattle.access_rules.proofs.Objects.{no_object, object_read}
+use Rattle.ber_tlv.proofs.ObjectLemmas.{no_object, object_read}
 use Rattle.access_rules.proofs.object.first_object.Goals as goal
 
 pub returns-in-Ok : goal.returns-in-Ok

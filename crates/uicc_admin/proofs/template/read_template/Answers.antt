@@ -1,6 +1,6 @@
 use Rattle.std.proofs.Common.{◌≢◌, ℕ, List, length, drop, ◌∙◌, arith}
 use Rattle.std.proofs.lemmas.List.{length-drop}
-use Rattle.access_rules.proofs.Objects.{no_object, object_read}
+use Rattle.ber_tlv.proofs.ObjectLemmas.{no_object, object_read}
 use Rattle.ber_tlv.specs.Walk.{object_of}
 use Rattle.uicc_admin.proofs.TemplateLemmas.{false_left, false_right, not_that, nothing_read, other_read, template_read}
 use Rattle.uicc_admin.proofs.template.read_template.Goals as goal

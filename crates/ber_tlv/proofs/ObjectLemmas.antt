@@ -14,7 +14,7 @@ use Rattle.ber_tlv.specs.Walk.{LeadWith, Object}
 use Rattle.ber_tlv.proofs.Reading.{tag_of, length_of}
 use Rattle.ber_tlv.proofs.Refusal.{found_at}
 use Rattle.ber_tlv.proofs.Walking.{shorter}
-use Rattle.access_rules.specs.Reading.{Read, long_tag, tag_at, long_length, length_at, value_at, object_at, objects_in, objects_of}
+use Rattle.ber_tlv.specs.Objects.{Read, long_tag, tag_at, long_length, length_at, value_at, object_at, objects_in, objects_of}
 
 -- of a choice by a test
 pub by_test : {A : Type 0} (P : A → Type 0) (b : Bool) (x y : A) → (b ≡ true → P x) → (b ≡ false → P y) → P (cond b x y)
@@ -304,6 +304,10 @@ objects_read (o ∷ os) (suc most) (b ∷ bytes) h p =
 pub objects_fill : (bytes : List ℕ) → Sound (λ objects. LeadWith bytes objects []) (objects_of bytes)
 unfolding objects_of
 objects_fill bytes = objects_there (length bytes) bytes
+
+pub objects_filled : (bytes : List ℕ) (objects : List Object) → LeadWith bytes objects [] → objects_of bytes ≡ Some objects
+unfolding objects_of
+objects_filled bytes objects whole = objects_read objects (length bytes) bytes (omega arith) whole
 
 -- one object and those behind it
 pub objects_step : (bytes : List ℕ) (read : Read Object) → object_at bytes ≡ Some read → objects_of bytes ≡ option_map (λ objects. read.found ∷ objects) (objects_of read.behind)
