@@ -1,5 +1,6 @@
 pub mod Announcement
 pub mod Fetch
+pub mod Lsi
 pub mod RefreshCommand
 pub mod RefreshState
 pub mod TerminalCapability

@@ -1,9 +1,11 @@
-ghost use Rattle.std.specs.Prelude.{◌≡◌, ◌≢◌, ◌+◌, ◌++◌, List, [], ◌∷◌, length};
+ghost use Rattle.std.specs.Prelude.{ℕ, Ok, ◌<◌, ◌≡◌, ◌≢◌, ◌+◌, ◌++◌, List, [], ◌∷◌, length};
 ghost use Rattle.apdu_codec.specs.Command.{Apdu};
 ghost use Rattle.apdu_codec.specs.declared.status.TheConstants.Sw.{OK, PROACTIVE};
 ghost use Rattle.file_rows.specs.declared.row.FileRow.{FileRow};
 ghost use Rattle.lsi_refresh.specs.Announcement.{announced};
 ghost use Rattle.lsi_refresh.specs.Fetch.{fetch_row};
+ghost use Rattle.lsi_refresh.specs.Lsi.{lsi_of};
+ghost use Rattle.lsi_refresh.specs.declared.lsi.Lsi.TheVariants.{Count, Reset};
 ghost use Rattle.lsi_refresh.specs.RefreshCommand.{refresh_command, short_object};
 ghost use Rattle.lsi_refresh.specs.RefreshState.{ChangesRefreshAlone};
 ghost use Rattle.lsi_refresh.specs.TerminalCapability.{terminal_capability_row};
@@ -115,4 +117,14 @@ pub fn announcements_are_of_what_waits()
         → (announced outcome).session ≡ outcome.session }
     ensures content { (outcome : CommandOutcome)
         → (announced outcome).change ≡ outcome.change }
+{}
+
+/// A MANAGE LSI that is taken has class byte `80`: it is a command of no channel but the basic one.
+/// It resets the port that P2 names, which is one of the card's; and it asks for the number of
+/// ports with P1 and P2 00 alone.
+pub fn resets_are_of_ports()
+    ensures reset { (c : Apdu) (ports port : ℕ) → lsi_of c ports ≡ Ok (Reset port)
+        → (c.channel ≡ 0) × (c.p1 ≡ 0x01) × (c.p2 ≡ port) × (port < ports) × (c.body ≡ []) }
+    ensures count { (c : Apdu) (ports : ℕ) → lsi_of c ports ≡ Ok Count
+        → (c.channel ≡ 0) × (c.p1 ≡ 0x00) × (c.p2 ≡ 0x00) × (c.body ≡ []) }
 {}

@@ -215,4 +215,35 @@ fn the_laws_hold(rt: HostRuntime) {
     refused_terminal_commands_change_nothing();
     sessions_suit_after_terminal_commands();
     announcements_are_of_what_waits();
+    resets_are_of_ports();
+}
+
+#[test]
+fn manage_lsi_counts_the_ports_or_resets_one(rt: HostRuntime) -> Result<(), Fail> {
+    let rows: [(&[u8], Result<Lsi, Sw>); 18] = [
+        (b"\x80\x7A\0\0\x03", Ok(Lsi::Count)),
+        (b"\x80\x7A\0\0\0", Ok(Lsi::Count)),
+        (b"\x80\x7A\0\0\x02", Err(Sw(0x6C03))),
+        (b"\x80\x7A\0\0\x04", Err(Sw(0x6C03))),
+        (b"\x80\x7A\0\0", Err(Sw(0x6700))),
+        (b"\x80\x7A\0\0\x01\0\x03", Err(Sw(0x6700))),
+        (b"\x80\x7A\0\x01\x03", Err(Sw(0x6A86))),
+        (b"\x80\x7A\x02\0\x03", Err(Sw(0x6A86))),
+        (b"\x80\x7A\x01\0", Ok(Lsi::Reset(0))),
+        (b"\x80\x7A\x01\x02", Ok(Lsi::Reset(2))),
+        (b"\x80\x7A\x01\x02\xFF", Ok(Lsi::Reset(2))),
+        (b"\x80\x7A\x01\x03", Err(Sw(0x6A86))),
+        (b"\x80\x7A\x01\x03\x01\0", Err(Sw(0x6A86))),
+        (b"\x80\x7A\x01\x02\x01\0", Err(Sw(0x6700))),
+        (b"\x80\x7A\x01\x02\x01\0\0", Err(Sw(0x6700))),
+        (b"\0\x7A\x01\x03", Err(Sw(0x6E00))),
+        (b"\x81\x7A\0\0\x03", Err(Sw(0x6E00))),
+        (b"\x83\x7A\x01\x02", Err(Sw(0x6E00))),
+    ];
+    for (bytes, wanted) in rows {
+        let command = read_command(bytes).map_err(|_| Fail::from("a command"))?;
+        assert!(rt; read_lsi(&command, 3) == wanted, "{bytes:?}");
+    }
+    assert_eq!(rt; count_body(3).as_slice(), b"\x80\x01\x03".as_slice());
+    Ok(())
 }

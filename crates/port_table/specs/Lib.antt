@@ -1,2 +1,4 @@
 pub mod PortMode
+pub mod PortOf
 pub mod Ports
+pub mod Target
