@@ -1,10 +1,10 @@
 -- What is handed out stood in front of what is left.
-use Rattle.std.proofs.Common.{◌≡◌, ℕ, zero, suc, ◌+◌, ◌-◌, ◌<◌, ◌≤◌, Bool, true, false, List, [], ◌∷◌, ◌++◌, length, take, drop, refl, sym, ◌∙◌, ap, subst, cond, arith, length-append}
-use Rattle.std.proofs.lemmas.List.{take-append-drop, drop-drop, length-drop, length-take-le}
+use Rattle.std.proofs.Common.{◌≡◌, ℕ, ◌+◌, ◌-◌, ◌≤◌, List, [], ◌∷◌, ◌++◌, length, take, drop, sym, ◌∙◌, ap, subst, cond, arith}
+use Rattle.std.proofs.lemmas.List.{take-append-drop, drop-drop, length-take-le}
 use Rattle.ber_tlv.specs.Head.{BeginsWithHead}
 use Rattle.package_reader.specs.ReaderState.{ReaderState, opens, IsAtClose}
 use Rattle.package_reader.specs.NextHead.{FitsIn, left_in}
-use Rattle.package_reader.specs.Part.{HandsOutHead, ReadsOn}
+use Rattle.package_reader.specs.Part.{HandsOutHead}
 
 pub none_shown : (n : ℕ) (xs : List ℕ) → take (n - n) xs ≡ []
 none_shown n xs = let e : n - n ≡ 0 = omega arith in ap (λ k. take k xs) e

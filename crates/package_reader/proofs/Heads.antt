@@ -1,10 +1,10 @@
 -- What the bytes up to the end of a TLV say of those behind it.
-use Rattle.std.proofs.Common.{◌≡◌, ℕ, zero, suc, ◌+◌, ◌-◌, ◌^◌, ◌<◌, ◌≤◌, min, List, [], ◌∷◌, ◌++◌, length, take, drop, Some, None, refl, sym, ◌∙◌, ap, subst, inl, inr, arith, append_assoc, length-append}
+use Rattle.std.proofs.Common.{◌≡◌, ℕ, zero, suc, ◌+◌, ◌<◌, ◌≤◌, min, List, [], ◌∷◌, ◌++◌, length, take, drop, Some, None, refl, sym, ◌∙◌, ap, inl, inr, arith, append_assoc, length-append}
 use Rattle.std.proofs.lemmas.List.{take-append-drop, drop-append-le, length-drop}
 use Rattle.ber_tlv.specs.Head.{BeginsWithHead, RefusesHead}
 use Rattle.ber_tlv.specs.declared.fault.TlvFault.{TlvFault}
 use Rattle.ber_tlv.specs.declared.fault.TlvFault.TheVariants.{Short, BadTag, BadLength}
-use Rattle.package_reader.specs.NextHead.{SpellsNone, PassesEnd, MayBecomeHead}
+use Rattle.package_reader.specs.NextHead.{SpellsNone}
 
 -- the shorter of both fronts is the front
 pub take_least : (u : List ℕ) (k n : ℕ) → n ≡ min k (length u) → take n u ≡ take k u

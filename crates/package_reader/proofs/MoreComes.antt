@@ -1,14 +1,13 @@
 -- What stands in front doesn't change with what comes behind.
-use Rattle.std.proofs.Common.{◌≡◌, ℕ, zero, suc, ◌+◌, ◌-◌, ◌≤◌, ◌<◌, List, [], ◌∷◌, ◌++◌, length, take, drop, Option, Some, None, refl, sym, ◌∙◌, ap, subst, ⊎_elim, inl, inr, arith, append_assoc, length-append}
+use Rattle.std.proofs.Common.{◌≡◌, ℕ, zero, suc, ◌+◌, List, [], ◌∷◌, ◌++◌, length, take, Option, Some, None, refl, sym, ◌∙◌, ap, subst, ⊎_elim, inl, inr, arith, append_assoc, length-append}
 use Rattle.std.proofs.lemmas.List.{take-append-le}
 use Rattle.std.proofs.lemmas.Bool.{cases_lt}
 use Rattle.ber_tlv.specs.Head.{BeginsWithHead, RefusesHead}
-use Rattle.ber_tlv.specs.declared.fault.TlvFault.{TlvFault}
 use Rattle.ber_tlv.specs.declared.fault.TlvFault.TheVariants.{Short, BadTag, BadLength}
 use Rattle.ber_tlv.proofs.Heads.{bad_tag_stays, bad_length_stays}
-use Rattle.package_reader.specs.ReaderState.{ReaderState, fed, IsAtClose}
-use Rattle.package_reader.specs.NextHead.{FitsIn, EndBefore, SpellsNone, PassesEnd, left_in, up_to_end}
-use Rattle.package_reader.specs.Part.{HandsOut, HandsOutHead, HandsOutClose, HandsOutBad}
+use Rattle.package_reader.specs.ReaderState.{ReaderState, fed}
+use Rattle.package_reader.specs.NextHead.{EndBefore, SpellsNone, left_in, up_to_end}
+use Rattle.package_reader.specs.Part.{HandsOut}
 use Rattle.package_reader.specs.Turn.{IsWhole}
 use Rattle.package_reader.specs.declared.part.Part.{Part}
 use Rattle.package_reader.specs.declared.part.Part.TheVariants.{Head, Bytes, Close, More, Bad}

@@ -1,6 +1,6 @@
 -- The parts that a reader hands out. The bytes of the parts, one after another, are those that
 -- came.
-use Rattle.std.specs.Prelude.{◌≡◌, ◌⊎◌, ℕ, ◌+◌, ◌≤◌, min, true, false, List, [], ◌∷◌, ◌++◌, length, if◌then◌else◌}
+use Rattle.std.specs.Prelude.{◌≡◌, ◌⊎◌, ℕ, ◌+◌, ◌≤◌, min, [], ◌∷◌, ◌++◌, length, if◌then◌else◌}
 use Rattle.ber_tlv.specs.Head.{BeginsWithHead}
 use Rattle.package_reader.specs.ReaderState.{ReaderState, opens, IsAtClose}
 use Rattle.package_reader.specs.NextHead.{FitsIn, left_in, SpellsNone, MayBecomeHead}

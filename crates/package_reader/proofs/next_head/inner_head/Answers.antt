@@ -1,4 +1,4 @@
-use Rattle.std.proofs.Common.{◌≡◌, ℕ, ◌≤◌, List, take, length, drop, subst, ap, ◌∙◌, sym, arith}
+use Rattle.std.proofs.Common.{◌≡◌, ℕ, ◌≤◌, List, take, length, drop, subst, arith}
 use Rattle.ber_tlv.specs.Head.{RefusesHead, BeginsWithHead}
 use Rattle.ber_tlv.specs.declared.fault.TlvFault.{TlvFault}
 use Rattle.package_reader.proofs.Heads.{take_least, longer, passes, refused_inside, short_front}

@@ -1,5 +1,5 @@
 use Rattle.std.proofs.Common.{ap, subst, sym}
-use Rattle.package_reader.specs.ReaderState.{ReaderState, IsAtClose}
+use Rattle.package_reader.specs.ReaderState.{IsAtClose}
 use Rattle.package_reader.specs.Fields.{state_of}
 use Rattle.package_reader.proofs.Ends.{closes}
 use Rattle.package_reader.proofs.Handing.{none_shown}

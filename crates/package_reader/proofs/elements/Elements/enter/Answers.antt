@@ -1,8 +1,6 @@
-use Rattle.std.proofs.Common.{◌≡◌, ℕ, ◌+◌, ◌-◌, ◌≤◌, Bool, List, take, ◌++◌, ◌∷◌, [], true, false, cond, length, drop, ap, subst, sym, ◌∙◌, refl, arith}
+use Rattle.std.proofs.Common.{◌≡◌, ℕ, ◌+◌, ◌-◌, ◌≤◌, Bool, List, take, ◌++◌, ◌∷◌, [], true, false, cond, length, drop, ap, subst, sym, ◌∙◌}
 use Rattle.ber_tlv.specs.Head.{BeginsWithHead}
-use Rattle.package_reader.specs.ReaderState.{ReaderState, IsAtClose, opens}
-use Rattle.package_reader.specs.NextHead.{FitsIn, left_in}
-use Rattle.package_reader.specs.Fields.{state_of}
+use Rattle.package_reader.specs.ReaderState.{ReaderState, opens}
 use Rattle.package_reader.proofs.Handing.{enters}
 use Rattle.package_reader.proofs.elements.Elements.enter.Goals as goal
 use Rattle.package_reader.proofs.elements.Elements.enter.Goals.{then-is_opened, else-is_opened}

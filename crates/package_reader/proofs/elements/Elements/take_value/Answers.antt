@@ -1,6 +1,5 @@
 use Rattle.std.proofs.Common.{◌≡◌, ◌≤◌, ◌+◌, min, length, drop, ap, subst, sym, ◌∙◌, refl, arith}
 use Rattle.package_reader.specs.ReaderState.{ReaderState, IsAtClose}
-use Rattle.package_reader.specs.Fields.{state_of}
 use Rattle.package_reader.proofs.Handing.{next_bytes, as_many}
 use Rattle.package_reader.proofs.elements.Elements.take_value.Goals as goal
 
