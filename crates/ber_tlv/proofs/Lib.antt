@@ -3,3 +3,4 @@ pub mod Refusal
 pub mod Prefixes
 pub mod Walking
 pub mod ObjectLemmas
+pub mod Heads

@@ -35,20 +35,20 @@ good_size (a ∷ b ∷ c ∷ []) x n p = ⊎_elim (λ e. absurd (omega arith)) (
 good_size (a ∷ b ∷ c ∷ d ∷ []) x n p = ⊎_elim (λ e. absurd (omega arith)) (λ e. absurd (omega arith))
 good_size (a ∷ b ∷ c ∷ d ∷ e ∷ m) x n p = absurd p
 
-good_length : {bytes rest : List ℕ} {n : ℕ} → BeginsWithLength bytes n rest → ¬ BeginsBadly bytes
+pub good_length : {bytes rest : List ℕ} {n : ℕ} → BeginsWithLength bytes n rest → ¬ BeginsBadly bytes
 good_length {bytes} {rest} {n} p = λ h. good_size p.size rest n p.sized (subst BeginsBadly p.whole h)
 
 -- behind the tag the length is bad exactly where the bytes have a bad length
-bad_behind : {bytes : List ℕ} (rest : List ℕ) {t : ℕ} → BeginsWithTag bytes t rest → BeginsBadly rest → HasBadLength bytes
+pub bad_behind : {bytes : List ℕ} (rest : List ℕ) {t : ℕ} → BeginsWithTag bytes t rest → BeginsBadly rest → HasBadLength bytes
 bad_behind [] p h = absurd h
 bad_behind (first ∷ more) {t} p h = record { prefix = p.prefix; tag = t; first = first; more = more; tagged = p.tagged; bad = h; whole = p.whole }
 
-bad_before : {bytes rest : List ℕ} {t : ℕ} → BeginsWithTag bytes t rest → HasBadLength bytes → BeginsBadly rest
+pub bad_before : {bytes rest : List ℕ} {t : ℕ} → BeginsWithTag bytes t rest → HasBadLength bytes → BeginsBadly rest
 bad_before {bytes} {rest} {t} p h =
     let prefix : BeginsWithTag bytes h.tag (h.first ∷ h.more) = record { prefix = h.prefix; tagged = h.tagged; whole = h.whole } in
     subst BeginsBadly (same_tag prefix p).1 h.bad
 
-tag_of_bad : {bytes : List ℕ} → (h : HasBadLength bytes) → BeginsWithTag bytes h.tag (h.first ∷ h.more)
+pub tag_of_bad : {bytes : List ℕ} → (h : HasBadLength bytes) → BeginsWithTag bytes h.tag (h.first ∷ h.more)
 tag_of_bad h = record { prefix = h.prefix; tagged = h.tagged; whole = h.whole }
 
 -- the step that refuses gives the reason

@@ -3,5 +3,6 @@ pub mod Tag
 pub mod Length
 pub mod Parts
 pub mod Tlv
+pub mod Head
 pub mod Walk
 pub mod Objects

@@ -23,7 +23,7 @@ fn goes_on(first: u8) -> bool
 }
 
 // The tag that stands first, and the bytes after it.
-fn read_tag(bytes: &[u8]) -> Result<(u32, &[u8]), TlvFault>
+pub(crate) fn read_tag(bytes: &[u8]) -> Result<(u32, &[u8]), TlvFault>
     ensures { MatchResult result (λ r. BeginsWithTag bytes.now r.0 r.1.now) (RefusesTag bytes.now) }
 {
     match bytes {
@@ -44,7 +44,7 @@ fn read_tag(bytes: &[u8]) -> Result<(u32, &[u8]), TlvFault>
 }
 
 // The length that stands first, and the bytes after it.
-fn read_length(bytes: &[u8]) -> Result<(usize, &[u8]), TlvFault>
+pub(crate) fn read_length(bytes: &[u8]) -> Result<(usize, &[u8]), TlvFault>
     ensures { MatchResult result (λ r. BeginsWithLength bytes.now r.0 r.1.now)
         (RefusesLength bytes.now) }
 {

@@ -70,3 +70,35 @@ fn the_laws_of_the_coding_are_callable() {
     one_walk();
     reading_finds_what_stands_there();
 }
+
+#[test]
+fn reads_the_head_alone(rt: HostRuntime) {
+    let cases: [(&[u8], Result<TlvHead, TlvFault>); 6] = [
+        (
+            b"\x5A\x02",
+            Ok(TlvHead {
+                tag: 0x5A,
+                length: 2,
+                size: 2,
+            }),
+        ),
+        (
+            b"\x5F\x81\x01\x83\x01\x00\x00\xFF",
+            Ok(TlvHead {
+                tag: 0x5F_8101,
+                length: 0x1_0000,
+                size: 7,
+            }),
+        ),
+        (b"\x5A\x82\x01", Err(TlvFault::Short)),
+        (b"", Err(TlvFault::Short)),
+        (b"\x1F\x80\x80", Err(TlvFault::BadTag)),
+        (b"\x5A\x80", Err(TlvFault::BadLength)),
+    ];
+    for (bytes, head) in cases {
+        assert!(rt; read_head(bytes) == head, "{bytes:?}");
+    }
+    one_head();
+    heads_are_read_or_refused();
+    bad_heads_stay_bad();
+}

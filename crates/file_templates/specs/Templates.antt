@@ -1,5 +1,5 @@
--- The file templates of a profile package: 1 is the MF, 3 telecom, 4 the USIM, 5 the USIM's optional
--- files, 8 the ISIM.
+-- The file templates of a profile package: 1 is the MF, 3 telecom, 4 the USIM, 5 the USIM's
+-- optional files, 8 the ISIM.
 use Rattle.std.specs.Prelude.{ℕ, Bool, ◌==◌, ◌&&◌, ◌*◌, List, [], ◌∷◌, Option, find, count_by}
 use Rattle.std.specs.Option.{option_map}
 use Rattle.file_rows.specs.declared.head.Kind.{Kind}

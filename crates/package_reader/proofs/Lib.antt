@@ -1,0 +1,6 @@
+pub mod Heads
+pub mod Ends
+pub mod Handing
+pub mod Joined
+pub mod OnePart
+pub mod MoreComes

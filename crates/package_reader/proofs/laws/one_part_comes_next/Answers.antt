@@ -1,0 +1,5 @@
+use Rattle.package_reader.proofs.OnePart.{one_part}
+use Rattle.package_reader.proofs.laws.one_part_comes_next.Goals as goal
+
+pub returns : goal.returns
+returns c = one_part
