@@ -7,6 +7,13 @@ pub mod CopyRowLemmas
 pub mod EraseLemmas
 pub mod ImageLemmas
 pub mod OpenLemmas
+pub mod PoolApplyLemmas
+pub mod PoolChangeLemmas
+pub mod PoolCompactLemmas
+pub mod PoolCopyLemmas
+pub mod PoolFileLemmas
+pub mod PoolLemmas
+pub mod PoolSizeLemmas
 pub mod ReadLemmas
 pub mod StoreLemmas
 pub mod SwitchLemmas

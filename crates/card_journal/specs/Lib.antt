@@ -5,6 +5,7 @@ pub mod Image
 pub mod Next
 pub mod NotOpened
 pub mod OpenFault
+pub mod Pool
 pub mod Read
 pub mod RecordBody
 pub mod RecordSizes

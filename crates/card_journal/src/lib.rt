@@ -14,6 +14,7 @@ mod laws;
 mod next;
 mod open;
 mod open_fault;
+mod pool;
 mod reading;
 mod row;
 mod store;
@@ -27,6 +28,7 @@ pub use laws::{
     copies_leave_room, copies_leave_the_card, images_hold_one_card, records_are_appended,
 };
 pub use open_fault::OpenFault;
+pub use pool::PooledContent;
 pub use reading::{Found, read_bank};
 pub use store::BankStore;
 
