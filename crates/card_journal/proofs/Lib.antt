@@ -6,7 +6,9 @@ pub mod CopyLemmas
 pub mod CopyRowLemmas
 pub mod EraseLemmas
 pub mod ImageLemmas
+pub mod MakeLemmas
 pub mod OpenLemmas
 pub mod ReadLemmas
 pub mod StoreLemmas
 pub mod SwitchLemmas
+pub mod SwitchedLemmas
