@@ -3,7 +3,7 @@ use Rattle.std.proofs.Common.{◌≡◌, inl, inr, ℕ, ◌+◌, ◌-◌, ◌<�
 use Rattle.flash_pages.specs.Append.{AppendsRow, HasRowsOrOneMore, IsTornRow, LeavesTornRow}
 use Rattle.flash_pages.specs.Bank.{bank_bytes, end_of, start_of}
 use Rattle.flash_pages.specs.Bytes.{DiffersIn, patch}
-use Rattle.flash_pages.specs.Flash.{FlashState, IsFlash, card_blocks, IsSettled}
+use Rattle.flash_pages.specs.Flash.{FlashState, IsFlash, card_blocks, IsSettled, MayLeaveOnly}
 use Rattle.flash_pages.specs.Rows.{HasRows, behind_gate, row_of}
 use Rattle.flash_pages.specs.Switch.{live_of}
 use Rattle.flash_pages.proofs.BlankBehind.{EndsBlank-ends, EndsBlank-rows, bank-append}
@@ -34,7 +34,7 @@ holds_card held live end image ends = record {
 }
 
 -- a torn row differs in its bytes alone
-torn_differs : (at : ℕ) (body before image : List ℕ) → at + 5 + length body ≤ length before → IsTornRow at body before image
+pub torn_differs : (at : ℕ) (body before image : List ℕ) → at + 5 + length body ≤ length before → IsTornRow at body before image
     → DiffersIn at (5 + length body) before image
 torn_differs at body before image fits (inl differs) =
     DiffersIn-wider (at + 1) (4 + length body) at (5 + length body) before image (omega arith) (omega arith) differs
@@ -98,13 +98,13 @@ pub record AddsRow {T E : Type 0} (a c : FlashState) (live end : ℕ) (entry : R
   pub torn : LeavesTornRow end (spelling entry) a c
 
 module _ {T E : Type 0} (a c : FlashState) (live end : ℕ) (entry : Record) (result : Result T E) (adds : AddsRow a c live end entry result)
-    (held : Durable) (takes : FitsCard held entry) (old : MakesCard entry → ⊥) (stored : IsStored a held live end) where
+    (held : Durable) (takes : FitsCard held entry) (old : MakesCard entry → ⊥) (ends_clean : IfSome a.bytes (EndsClean held live end)) where
   inside : (bytes : List ℕ) → a.bytes ≡ Some bytes → end_of (bank_of live) ≤ length bytes
   inside bytes is = omega (arith, flash_size card_blocks a adds.was bytes is, adds.bank)
 
   outlives : (bytes content : List ℕ) → a.bytes ≡ Some bytes → IsTornRow end (spelling entry) bytes content → HoldsWith held (Some entry) content
   outlives bytes content is torn_row =
-      let ends : EndsClean held live end bytes = at_some a.bytes (EndsClean held live end) bytes is stored.bytes in
+      let ends : EndsClean held live end bytes = at_some a.bytes (EndsClean held live end) bytes is ends_clean in
       let in_flash = inside bytes is in
       let differs = torn_differs end (spelling entry) bytes content (omega (arith, adds.fits, in_flash)) torn_row in
       let at_end = EndsBlank-ends (bank_bytes (bank_of live) bytes) ends.bodies (end - start_of (bank_of live)) ends.rows (length (spelling entry)) in
@@ -112,18 +112,26 @@ module _ {T E : Type 0} (a c : FlashState) (live end : ℕ) (entry : Record) (re
       torn_holds held live end bytes content ends end (5 + length (spelling entry)) (omega (arith, adds.from_start)) differs entry (spelling entry) takes old
       adds.codes rows
 
+  added_ends : (r : Result T E) → OnOk r (IfSome a.bytes (λ before. c.bytes ≡ Some (patch before end (row_of (spelling entry)))))
+      → OnOk r (IfSome c.bytes (EndsClean (apply held entry) live (end + 5 + length (spelling entry))))
+  added_ends (Err e) done = tt
+  added_ends (Ok x) done = from_each c.bytes _ (λ now is_now.
+      let was = known_before a c adds.appends.touches.time now is_now in
+      let patched = at_some a.bytes (λ l. c.bytes ≡ Some (patch l end (row_of (spelling entry)))) was.0 was.1 done in
+      let ends : EndsClean held live end was.0 = at_some a.bytes (EndsClean held live end) was.0 was.1 ends_clean in
+      subst (EndsClean (apply held entry) live (end + 5 + length (spelling entry)))
+      (same_some (patch was.0 end (row_of (spelling entry))) now (sym patched ∙ is_now))
+      (row_added held live end was.0 ends entry (spelling entry) adds.from_start adds.fits (inside was.0 was.1) takes old adds.codes))
+
+  -- after Ok it ends clean with the row
+  pub adds_ends : OnOk result (IfSome c.bytes (EndsClean (apply held entry) live (end + 5 + length (spelling entry))))
+  adds_ends = added_ends result adds.appends.done
+
   added : (r : Result T E) → OnOk r (IfSome a.bytes (λ before. c.bytes ≡ Some (patch before end (row_of (spelling entry)))))
       → OnOk r (IsSettled c) → OnOk r (IsStored c (apply held entry) live (end + 5 + length (spelling entry)))
   added (Err e) done settled = tt
   added (Ok x) done settled =
-      let bytes : IfSome c.bytes (EndsClean (apply held entry) live (end + 5 + length (spelling entry))) =
-      from_each c.bytes _ (λ now is_now.
-      let was = known_before a c adds.appends.touches.time now is_now in
-      let patched = at_some a.bytes (λ l. c.bytes ≡ Some (patch l end (row_of (spelling entry)))) was.0 was.1 done in
-      let ends : EndsClean held live end was.0 = at_some a.bytes (EndsClean held live end) was.0 was.1 stored.bytes in
-      subst (EndsClean (apply held entry) live (end + 5 + length (spelling entry)))
-      (same_some (patch was.0 end (row_of (spelling entry))) now (sym patched ∙ is_now))
-      (row_added held live end was.0 ends entry (spelling entry) adds.from_start adds.fits (inside was.0 was.1) takes old adds.codes)) in
+      let bytes : IfSome c.bytes (EndsClean (apply held entry) live (end + 5 + length (spelling entry))) = added_ends (Ok x) done in
       record {
         bytes = bytes;
         may_leave = MayLeaveOnly-settled c (λ content. HoldsCard content (apply held entry)) settled
@@ -131,11 +139,12 @@ module _ {T E : Type 0} (a c : FlashState) (live end : ℕ) (entry : Record) (re
             holds_card (apply held entry) live (end + 5 + length (spelling entry)) now (at_some c.bytes _ now is_now bytes)));
       }
 
-  pub adds_record : AppendsRecord held entry live (end + 5 + length (spelling entry)) a c result
-  adds_record = record {
+  pub adds_record : MayLeaveOnly a (λ content. HoldsCard content held)
+      → AppendsRecord held entry live (end + 5 + length (spelling entry)) a c result
+  adds_record may_leave = record {
     throughout = Throughout-append card_blocks a a c (HoldsWith held (Some entry)) adds.was adds.lawful
         (Throughout-begin card_blocks a (HoldsWith held (Some entry)) adds.was
-        (MayLeaveOnly-weaken a (λ content. HoldsCard content held) (HoldsWith held (Some entry)) (λ content holds. inl holds) stored.may_leave))
+        (MayLeaveOnly-weaken a (λ content. HoldsCard content held) (HoldsWith held (Some entry)) (λ content holds. inl holds) may_leave))
         end (spelling entry) adds.appends.touches.time adds.torn
         (λ bytes content is before torn_row. outlives bytes content is torn_row);
     done = added result adds.appends.done adds.appends.settled;

@@ -6,6 +6,7 @@ pub mod CopyLemmas
 pub mod CopyRowLemmas
 pub mod EraseLemmas
 pub mod ImageLemmas
+pub mod MakeLemmas
 pub mod OpenLemmas
 pub mod PoolApplyLemmas
 pub mod PoolChangeLemmas
@@ -17,3 +18,4 @@ pub mod PoolSizeLemmas
 pub mod ReadLemmas
 pub mod StoreLemmas
 pub mod SwitchLemmas
+pub mod SwitchedLemmas

@@ -1,7 +1,7 @@
 -- What is read when a store is opened.
-use Rattle.std.proofs.Common.{◌≡◌, ◌↔◌, ℕ, ◌+◌, ◌-◌, ◌*◌, ◌<◌, ◌≤◌, Bool, true, false, IsTrue, List, [], length, take, slice_index, Some, IfSome, EachIndex, get_or, refl, sym, ◌∙◌, ap, subst, arith}
+use Rattle.std.proofs.Common.{◌≡◌, ◌≢◌, ◌↔◌, ℕ, ◌+◌, ◌-◌, ◌*◌, ◌<◌, ◌≤◌, Bool, true, false, IsTrue, List, [], length, take, drop, slice_index, Option, Some, None, is_none, IfSome, EachIndex, get_or, refl, sym, ◌∙◌, ap, subst, arith}
 use Rattle.std.proofs.lemmas.Bool.{false≢true}
-use Rattle.std.proofs.lemmas.List.{get_or-replicate, take_at}
+use Rattle.std.proofs.lemmas.List.{get_or-drop, get_or-replicate, get_or-take, length-take, take-take, take_at}
 use Rattle.flash_pages.specs.Bank.{IsPlaceIn, bank_bytes, end_of, start_of}
 use Rattle.flash_pages.specs.Bytes.{IsErased, blank, part}
 use Rattle.flash_pages.specs.Flash.{FlashState, IsFlash, Reads, card_blocks}
@@ -13,6 +13,7 @@ use Rattle.flash_pages.proofs.Patches.{blank_from_each, length-blank, part-blank
 use Rattle.flash_pages.proofs.Touched.{at_some, flash_size, from_each}
 use Rattle.record_codec.specs.declared.durable.Durable.{Durable}
 use Rattle.card_journal.specs.Image.{HoldsCard, bank_of, switch_row}
+use Rattle.card_journal.specs.Made.{FirstUsedIs}
 use Rattle.card_journal.specs.Read.{BankHolds, OnlyReads}
 use Rattle.card_journal.specs.Stored.{EndsClean}
 
@@ -87,9 +88,6 @@ blank_at : (m k : ℕ) → k < m → get_or (blank m) k 0 ≡ 255
 unfolding blank
 blank_at m k below = get_or-replicate m k 255 0 below
 
-each_blank : (m : ℕ) (bytes : List ℕ) → bytes ≡ blank m → EachIndex bytes (λ k. slice_index bytes k ≡ 255)
-each_blank m bytes is = λ k below. ap (λ (l : List ℕ). get_or l k 0) is ∙ blank_at m k (omega (arith, below, ap length is, length-blank m))
-
 -- pieces, one after another
 module _ (a b : FlashState) (from at n : ℕ) (piece : List ℕ) (reads : OnlyReads a b) (behind : from ≤ at) (long : length piece ≡ n)
     (read : IfSome b.bytes (λ bytes. piece ≡ part at n bytes)) (so_far : IfSome a.bytes (IsErased from (at - from))) where
@@ -105,25 +103,59 @@ module _ (a b : FlashState) (from at n : ℕ) (piece : List ℕ) (reads : OnlyRe
       subst (λ (k : ℕ). IsErased from k image) next
       (blank-more from (at - from) n image (at_some a.bytes (IsErased from (at - from)) image is so_far) there))
 
-  pub piece_other : (to : ℕ) → at + n ≤ to → (EachIndex piece (λ k. slice_index piece k ≡ 255) → ⊥)
-      → IfSome a.bytes (λ image. IsTrue false ↔ IsErased from (to - from) image)
-  piece_other to within other = from_each a.bytes _ (λ image is. (
-    λ says. absurd (false≢true says),
-    λ erased. absurd (other (
-        let here : from + (at - from) ≡ at = omega arith in
-        let its : part at n image ≡ blank n =
-        ap (λ (k : ℕ). part k n image) (sym here) ∙ part-blank from (to - from) (at - from) n image (omega arith) erased in
-        each_blank n piece (piece_is image is ∙ its))),
-  ))
+  out_piece : (place : ℕ) → place < n → (image : List ℕ) → a.bytes ≡ Some image → get_or piece place 0 ≡ get_or image (at + place) 0
+  out_piece place inside image is =
+      ap (λ (l : List ℕ). get_or l place 0) (piece_is image is) ∙ get_or-take n (drop at image) place 0 inside ∙ get_or-drop at image place 0
+
+  pub piece_used : (place to : ℕ) → place < length piece → at + n ≤ to → slice_index piece place ≢ 255
+      → ((k : ℕ) → k < place → slice_index piece k ≡ 255) → IfSome a.bytes (FirstUsedIs from to (Some (at + place)))
+  piece_used place to inside within used before = from_each a.bytes _ (λ image is.
+      let here : from + (at - from) ≡ at = omega arith in
+      let next : (at - from) + place ≡ (at + place) - from = omega arith in
+      let short : length (take place piece) ≡ place = omega (arith, length-take place piece) in
+      let front : take place piece ≡ blank place =
+      blank_from_each (take place piece)
+      (λ k below. let le : k < place = omega arith in get_or-take place piece k 0 le ∙ before k le) ∙ ap blank short in
+      let its : part at place image ≡ blank place =
+      sym (take-take place n (drop at image) (omega arith)) ∙ sym (ap (take place) (piece_is image is)) ∙ front in
+      let there : part (from + (at - from)) place image ≡ blank place = ap (λ (k : ℕ). part k place image) here ∙ its in (
+        omega arith,
+        record {
+          behind = omega arith;
+          blank = subst (λ (k : ℕ). IsErased from k image) next
+              (blank-more from (at - from) place image (at_some a.bytes (IsErased from (at - from)) image is so_far) there);
+          used = λ is_ff. used (out_piece place (omega arith) image is ∙ is_ff);
+        },
+      ))
 
 -- all pieces were erased
 pub all_blank : (a : FlashState) (from at to : ℕ) → to ≤ at → at ≤ to → IfSome a.bytes (IsErased from (at - from))
-    → IfSome a.bytes (λ image. IsTrue true ↔ IsErased from (to - from) image)
+    → IfSome a.bytes (FirstUsedIs from to None)
 all_blank a from at to above below so_far = from_each a.bytes _ (λ image is.
     let same : at ≡ to = omega arith in
-    let erased : IsErased from (to - from) image =
-    subst (λ (k : ℕ). IsErased from (k - from) image) same (at_some a.bytes (IsErased from (at - from)) image is so_far) in
-    (λ says. erased, λ holds. refl))
+    subst (λ (k : ℕ). IsErased from (k - from) image) same (at_some a.bytes (IsErased from (at - from)) image is so_far))
+
+-- where there is no first byte that isn't FF, all is erased
+first_or_erased : (from to : ℕ) (used : Option ℕ) (image : List ℕ) → FirstUsedIs from to used image
+    → IsTrue (is_none used) ↔ IsErased from (to - from) image
+first_or_erased from to None image erased = (λ says. erased, λ holds. refl)
+first_or_erased from to (Some place) image first = (
+  λ says. absurd (false≢true says),
+  λ erased. absurd (
+      let behind = first.1.behind in
+      let below = first.0 in
+      let in_range : place - from < to - from = omega arith in
+      let here : from + (place - from) ≡ place = omega arith in
+      first.1.used
+      (ap (λ (k : ℕ). get_or image k 0) (sym here) ∙ sym (get_or-drop from image (place - from) 0)
+      ∙ sym (get_or-take (to - from) (drop from image) (place - from) 0 in_range)
+      ∙ ap (λ (l : List ℕ). get_or l (place - from) 0) erased ∙ blank_at (to - from) (place - from) in_range)),
+)
+
+pub erased_where : (s : FlashState) (from to : ℕ) (used : Option ℕ) → IfSome s.bytes (FirstUsedIs from to used)
+    → IfSome s.bytes (λ image. IsTrue (is_none used) ↔ IsErased from (to - from) image)
+erased_where s from to used first =
+    from_each s.bytes _ (λ image is. first_or_erased from to used image (at_some s.bytes (FirstUsedIs from to used) image is first))
 
 -- nothing is read before the first piece
 nothing : [] ≡ blank 0

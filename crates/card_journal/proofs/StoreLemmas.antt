@@ -1,34 +1,29 @@
 -- What a store keeps, from call to call.
-use Rattle.std.proofs.Common.{Bool, IsTrue, ◌↔◌, IsSome, drop, ◌^◌, ◌≡◌, ◌⊎◌, inl, inr, ⊎_elim, ℕ, ◌+◌, ◌-◌, ◌*◌, ◌<◌, ◌≤◌, List, length, Option, Some, None, IfSome, Result, Ok, Err, OnOk, refl, sym, ◌∙◌, subst, arith}
+use Rattle.std.proofs.Common.{Bool, IsTrue, ◌↔◌, IsSome, drop, ◌^◌, ◌≡◌, ◌⊎◌, inl, inr, ⊎_elim, ℕ, ◌+◌, ◌-◌, ◌*◌, ◌<◌, ◌≤◌, List, length, Option, Some, None, IfSome, Result, Ok, Err, IfOk, OnOk, refl, sym, ◌∙◌, subst, arith}
 use Rattle.std.specs.Prelude.{unwrap_or}
 use Rattle.flash_pages.specs.Append.{AppendsRow}
 use Rattle.flash_pages.specs.Bank.{IsPlaceIn, end_of, start_of}
 use Rattle.flash_pages.specs.Bytes.{IsErased, blank, part, patch}
 use Rattle.std.proofs.lemmas.Bool.{false≢true}
 use Rattle.std.proofs.lemmas.List.{length-take}
-use Rattle.flash_pages.specs.Flash.{FlashState, GoesOn, IsFlash, IsSettled, MayLeaveOnly, Throughout, card_blocks}
+use Rattle.flash_pages.specs.Flash.{FlashState, GoesOn, IsFlash, IsSettled, MayLeaveOnly, Restarts, Throughout, card_blocks}
 use Rattle.flash_pages.specs.Switch.{live_of}
 use Rattle.flash_pages.specs.Rows.{row_of}
 use Rattle.flash_pages.proofs.Patches.{DiffersIn-patch, part-blank, part_outside}
 use Rattle.flash_pages.proofs.RowLemmas.{length-row_of}
-use Rattle.flash_pages.proofs.Throughout.{MayLeaveOnly-bytes, MayLeaveOnly-weaken, Throughout-trans, Throughout-weaken}
-use Rattle.flash_pages.proofs.Touched.{GoesOn-trans, LeavesOnly-trans, at_some, flash_size, from_each, known_before, same_some}
+use Rattle.flash_pages.proofs.Throughout.{MayLeaveOnly-bytes, MayLeaveOnly-settled, MayLeaveOnly-weaken, Throughout-begin, Throughout-restart, Throughout-trans, Throughout-weaken}
+use Rattle.flash_pages.proofs.Touched.{GoesOn-trans, LeavesOnly-trans, at_some, flash_size, from_each, known, known_before, same_some}
 use Rattle.record_codec.specs.Apply.{apply}
 use Rattle.record_codec.specs.declared.durable.Durable.{Durable}
 use Rattle.record_codec.specs.declared.record.Record.{Record}
 use Rattle.card_journal.specs.Image.{HoldsCard, bank_of, live_bytes, switch_row}
 use Rattle.card_journal.proofs.AppendLemmas.{holds_card}
 use Rattle.card_journal.proofs.ImageLemmas.{one_card}
-use Rattle.card_journal.specs.StoreState.{Commits, FlashKeeps, KeepsCard, StoreState}
+use Rattle.card_journal.specs.StoreState.{Commits, KeepsCard, StoreState}
 use Rattle.card_journal.specs.Read.{OnlyReads}
 use Rattle.card_journal.specs.Stored.{EndsClean, HoldsEither, HoldsWith, IsStored}
+use Rattle.card_journal.specs.CardState.{IsHeldWith}
 use Rattle.card_journal.proofs.OpenLemmas.{ends_erased}
-
--- each content that a restart may leave holds what is held, or that after the unrepaired record
-pub kept_with : (flash : FlashState) (held : Durable) (unrepaired : Option Record) (live end : ℕ) → FlashKeeps flash held unrepaired live end
-    → MayLeaveOnly flash (HoldsWith held unrepaired)
-kept_with flash held None live end kept = kept.may_leave
-kept_with flash held (Some entry) live end kept = kept
 
 -- of erased bytes the first few
 pub first_erased : (at n : ℕ) (more : ℕ) (image : List ℕ) → n ≤ more → IsErased at more image → IsErased at n image
@@ -61,16 +56,20 @@ pub some_first_erased : (s : FlashState) (at n more : ℕ) → n ≤ more → If
 some_first_erased s at n more le erased = from_each s.bytes _ (λ image is.
     first_erased at n more image le (at_some s.bytes (IsErased at more) image is erased))
 
--- what is stored is kept, where no record is unrepaired
-pub kept_stored : (flash : FlashState) (held after : Durable) (unrepaired : Option Record) (live end next : ℕ) → unrepaired ≡ None → after ≡ held → next ≡ end
-    → IsStored flash held live end → FlashKeeps flash after unrepaired live next
-kept_stored flash held after unrepaired live end next none same here stored =
-    subst (λ (o : Option Record). FlashKeeps flash after o live next) (sym none)
-    (subst (λ (d : Durable). IsStored flash d live next) (sym same) (subst (λ (k : ℕ). IsStored flash held live k) (sym here) stored))
+-- where no record is unrepaired, what is kept is stored
+pub stored_of : (flash : FlashState) (held : Durable) (unrepaired : Option Record) (live end : ℕ) → unrepaired ≡ None
+    → IfSome flash.bytes (EndsClean held live end) → MayLeaveOnly flash (HoldsWith held unrepaired) → IsStored flash held live end
+stored_of flash held unrepaired live end none ends kept = record {
+  bytes = ends;
+  may_leave = subst (λ (o : Option Record). MayLeaveOnly flash (HoldsWith held o)) none kept;
+}
 
-pub stored_kept : (flash : FlashState) (held : Durable) (unrepaired : Option Record) (live end : ℕ) → unrepaired ≡ None → FlashKeeps flash held unrepaired live end
-    → IsStored flash held live end
-stored_kept flash held unrepaired live end none kept = subst (λ (o : Option Record). FlashKeeps flash held o live end) none kept
+-- and what may be left is kept
+pub kept_of : (flash : FlashState) (held after : Durable) (unrepaired : Option Record) → unrepaired ≡ None → after ≡ held
+    → MayLeaveOnly flash (λ content. HoldsCard content held) → MayLeaveOnly flash (HoldsWith after unrepaired)
+kept_of flash held after unrepaired none same may_leave =
+    subst (λ (o : Option Record). MayLeaveOnly flash (HoldsWith after o)) (sym none)
+    (subst (λ (d : Durable). MayLeaveOnly flash (HoldsWith d None)) (sym same) may_leave)
 
 -- what is held with the unrepaired record is one of two cards
 pub either_of : (held : Durable) (unrepaired : Option Record) → (other : Durable)
@@ -79,45 +78,39 @@ pub either_of : (held : Durable) (unrepaired : Option Record) → (other : Durab
 either_of held None = (held, λ image holds. inl holds, λ image either. ⊎_elim (λ holds. holds) (λ holds. holds) either)
 either_of held (Some entry) = (apply held entry, λ image holds. holds, λ image either. either)
 
--- over a switch
-pub switch_throughout : (a b : FlashState) (held : Durable) (unrepaired : Option Record) (live end : ℕ) → FlashKeeps a held unrepaired live end
+-- over a call that keeps either of two cards, as a switch and a restart do
+pub either_throughout : (a b : FlashState) (held : Durable) (unrepaired : Option Record) → MayLeaveOnly a (HoldsWith held unrepaired)
     → ((other : Durable) → MayLeaveOnly a (HoldsEither held other) → Throughout (HoldsEither held other) a b)
     → Throughout (HoldsWith held unrepaired) a b
-switch_throughout a b held unrepaired live end kept over =
+either_throughout a b held unrepaired kept over =
     let both = either_of held unrepaired in
     Throughout-weaken a b (HoldsEither held both.0) (HoldsWith held unrepaired) both.2
-    (over both.0 (MayLeaveOnly-weaken a (HoldsWith held unrepaired) (HoldsEither held both.0) both.1 (kept_with a held unrepaired live end kept)))
+    (over both.0 (MayLeaveOnly-weaken a (HoldsWith held unrepaired) (HoldsEither held both.0) both.1 kept))
 
 -- after a failure the record of before is unrepaired, or this one
-pub failed_kept : (a b : FlashState) (held : Durable) (unrepaired : Option Record) (copy : Record) (live end live' end' : ℕ) → FlashKeeps a held unrepaired live end
-    → Throughout (HoldsWith held unrepaired) a b → FlashKeeps b held (Some (unwrap_or unrepaired copy)) live' end'
-failed_kept a b held None copy live end live' end' kept through =
+pub failed_kept : (a b : FlashState) (held : Durable) (unrepaired : Option Record) (copy : Record) → Throughout (HoldsWith held unrepaired) a b
+    → MayLeaveOnly b (HoldsWith held (Some (unwrap_or unrepaired copy)))
+failed_kept a b held None copy through =
     MayLeaveOnly-weaken b (HoldsWith held None) (HoldsWith held (Some copy)) (λ image holds. inl holds) through.may_leave
-failed_kept a b held (Some entry) copy live end live' end' kept through = through.may_leave
+failed_kept a b held (Some entry) copy through = through.may_leave
 
 pub failed_is : (unrepaired : Option Record) (copy : Record) → (Some (unwrap_or unrepaired copy) ≡ unrepaired) ⊎ (Some (unwrap_or unrepaired copy) ≡ Some copy)
 failed_is None copy = inr refl
 failed_is (Some entry) copy = inl refl
 
--- a flash that was only read keeps what it kept
-pub reads_kept : (a b : FlashState) (held : Durable) (unrepaired : Option Record) (live end : ℕ) → OnlyReads a b → FlashKeeps a held unrepaired live end
-    → FlashKeeps b held unrepaired live end
-reads_kept a b held None live end reads kept = record {
-  bytes = from_each b.bytes _ (λ image is. at_some a.bytes (EndsClean held live end) image (sym reads.bytes ∙ is) kept.bytes);
-  may_leave = λ some content left.
-      let was = reads.time.bytes_known.1 some in kept.may_leave was content ((reads.may_leave was content).0 left);
-}
-reads_kept a b held (Some entry) live end reads kept = λ some content left.
+-- a flash that was only read keeps what it kept, and ends as it did
+pub reads_kept : (a b : FlashState) (P : List ℕ → Type 0) → OnlyReads a b → MayLeaveOnly a P → MayLeaveOnly b P
+reads_kept a b P reads kept some content left =
     let was = reads.time.bytes_known.1 some in kept was content ((reads.may_leave was content).0 left)
 
--- where something is stored, the rest of the live bank is erased
-pub stored_erased : (s : FlashState) (held : Durable) (live end : ℕ) → IsFlash card_blocks s → live < 2 → IsPlaceIn (bank_of live) end → IsStored s held live end
-    → IfSome s.bytes (IsErased end (end_of (bank_of live) - end))
-stored_erased s held live end lawful below place stored = from_each s.bytes _ (λ image is.
-    ends_erased held live end image below place (flash_size card_blocks s lawful image is) (at_some s.bytes (EndsClean held live end) image is stored.bytes))
+pub reads_ends : (a b : FlashState) (P : List ℕ → Type 0) → OnlyReads a b → IfSome a.bytes P → IfSome b.bytes P
+reads_ends a b P reads ends = from_each b.bytes _ (λ image is. at_some a.bytes P image (sym reads.bytes ∙ is) ends)
 
-pub reads_erased : (a b : FlashState) (at n : ℕ) → OnlyReads a b → IfSome a.bytes (IsErased at n) → IfSome b.bytes (IsErased at n)
-reads_erased a b at n reads erased = from_each b.bytes _ (λ image is. at_some a.bytes (IsErased at n) image (sym reads.bytes ∙ is) erased)
+-- where it ends clean, the rest of the live bank is erased
+pub clean_erased : (s : FlashState) (held : Durable) (live end : ℕ) → IsFlash card_blocks s → live < 2 → IsPlaceIn (bank_of live) end
+    → IfSome s.bytes (EndsClean held live end) → IfSome s.bytes (IsErased end (end_of (bank_of live) - end))
+clean_erased s held live end lawful below place ends = from_each s.bytes _ (λ image is.
+    ends_erased held live end image below place (flash_size card_blocks s lawful image is) (at_some s.bytes (EndsClean held live end) image is ends))
 
 with_card : (held : Durable) (unrepaired : Option Record) (image : List ℕ) → HoldsCard image held → HoldsWith held unrepaired image
 with_card held None image holds = holds
@@ -142,16 +135,15 @@ commits_row old mid new entry same first second kept =
       keeps = kept;
     }
 
--- a settled flash that ends clean stores what it holds, also after reads
-pub open_stored : (a b : FlashState) (held : Durable) (live end : ℕ) → OnlyReads a b → IsSettled a → IfSome a.bytes (EndsClean held live end)
-    → IsStored b held live end
-open_stored a b held live end reads settled clean = record {
-  bytes = from_each b.bytes _ (λ image is. at_some a.bytes (EndsClean held live end) image (sym reads.bytes ∙ is) clean);
-  may_leave = λ some content left.
-      let was = reads.time.bytes_known.1 some in
-      let is : a.bytes ≡ Some content = settled was content ((reads.may_leave was content).0 left) in
-      holds_card held live end content (at_some a.bytes (EndsClean held live end) content is clean);
-}
+-- of a settled flash that ends clean a restart leaves what it holds, also after reads
+pub open_kept : (a b : FlashState) (held : Durable) (live end : ℕ) → OnlyReads a b → IsSettled a → IfSome a.bytes (EndsClean held live end)
+    → MayLeaveOnly b (λ content. HoldsCard content held)
+open_kept a b held live end reads settled clean = reads_kept a b (λ content. HoldsCard content held) reads
+    (MayLeaveOnly-settled a (λ content. HoldsCard content held) settled
+    (from_each a.bytes _ (λ image is. holds_card held live end image (at_some a.bytes (EndsClean held live end) image is clean))))
+
+swapped : (one other : Durable) (content : List ℕ) → HoldsEither one other content → HoldsEither other one content
+swapped one other content either = ⊎_elim (λ holds. inr holds) (λ holds. inl holds) either
 
 -- over reads
 pub only_throughout : (a b : FlashState) (P : List ℕ → Type 0) → IsFlash card_blocks a → OnlyReads a b → MayLeaveOnly a P → Throughout P a b
@@ -172,39 +164,103 @@ none_some : (o : Option (List ℕ)) → o ≡ None → IsSome o → ⊥
 none_some None is some = false≢true some
 none_some (Some image) is some = absurd (cc)
 
+-- where the bytes are known, the card that was read is one of the two that each content may hold
+pub card_is : (a : FlashState) (card one other : Durable) → IsFlash card_blocks a → IfSome a.bytes (λ image. HoldsCard image card)
+    → MayLeaveOnly a (HoldsEither one other) → (image : List ℕ) → a.bytes ≡ Some image → (card ≡ one) ⊎ (card ≡ other)
+card_is a card one other first holds each image is =
+    let here : HoldsCard image card = at_some a.bytes (λ i. HoldsCard i card) image is holds in
+    ⊎_elim (λ its. inl (one_card image card one (short_live image) here its)) (λ its. inr (one_card image card other (short_live image) here its))
+    (MayLeaveOnly-bytes card_blocks a (HoldsEither one other) first each image is)
+
 -- over reads and a switch with the card that was read
 module _ (a m b : FlashState) (first : IsFlash card_blocks a) (third : IsFlash card_blocks b) (reads : OnlyReads a m) (time : GoesOn m b)
     (card : Durable) (holds : IfSome a.bytes (λ image. HoldsCard image card))
     (over : (other : Durable) → MayLeaveOnly m (HoldsEither card other) → Throughout (HoldsEither card other) m b) where
-  -- where the bytes are known it holds the card that was read
-  same_held : (held : Durable) → MayLeaveOnly a (λ content. HoldsCard content held) → (image : List ℕ) → a.bytes ≡ Some image → held ≡ card
-  same_held held each image is =
-      one_card image held card (short_live image) (MayLeaveOnly-bytes card_blocks a (λ content. HoldsCard content held) first each image is)
-      (at_some a.bytes (λ i. HoldsCard i card) image is holds)
+  by_card : (one other : Durable) → MayLeaveOnly m (HoldsEither one other) → (card ≡ one) ⊎ (card ≡ other)
+      → Throughout (HoldsEither one other) m b
+  by_card one other each (inl is) =
+      let P : Durable → Type 0 = λ d. (its : Durable) → MayLeaveOnly m (HoldsEither d its) → Throughout (HoldsEither d its) m b in
+      subst P is over other each
+  by_card one other each (inr is) =
+      let P : Durable → Type 0 = λ d. (its : Durable) → MayLeaveOnly m (HoldsEither d its) → Throughout (HoldsEither d its) m b in
+      Throughout-weaken m b (HoldsEither other one) (HoldsEither one other) (λ content either. swapped other one content either)
+      (subst P is over one (MayLeaveOnly-weaken m (HoldsEither one other) (HoldsEither other one) (λ content either. swapped one other content either) each))
 
-  pub open_throughout : (held : Durable) → MayLeaveOnly a (λ content. HoldsCard content held) → Throughout (λ content. HoldsCard content held) a b
-  open_throughout held each = by_bytes a.bytes refl
+  pub open_throughout : (one other : Durable) → MayLeaveOnly a (HoldsEither one other) → Throughout (HoldsEither one other) a b
+  open_throughout one other each = by_bytes a.bytes refl
     where
-      by_bytes : (o : Option (List ℕ)) → a.bytes ≡ o → Throughout (λ content. HoldsCard content held) a b
+      by_bytes : (o : Option (List ℕ)) → a.bytes ≡ o → Throughout (HoldsEither one other) a b
       by_bytes None is = record {
         time = GoesOn-trans card_blocks a m b third reads.time time;
         may_leave = λ some content left. absurd (none_some a.bytes is (reads.time.bytes_known.1 (time.bytes_known.1 some)));
         images = λ says image left. absurd (none_some a.bytes is (first.bytes_known (reads.time.images_known (time.images_known says))));
       }
       by_bytes (Some image) is =
-          let same = same_held held each image is in
-          let read = only_throughout a m (λ content. HoldsCard content held) first reads each in
-          let then = over card (λ some content left.
-          inl (subst (λ (d : Durable). HoldsCard content d) same (read.may_leave some content left))) in
-          let its = Throughout-weaken m b (HoldsEither card card) (λ content. HoldsCard content held)
-          (λ content either. subst (λ (d : Durable). HoldsCard content d) (sym same) (⊎_elim (λ x. x) (λ x. x) either)) then in
-          Throughout-trans card_blocks a m b (λ content. HoldsCard content held) third read its
+          let read = only_throughout a m (HoldsEither one other) first reads each in
+          Throughout-trans card_blocks a m b (HoldsEither one other) third read
+          (by_card one other read.may_leave (card_is a card one other first holds each image is))
 
--- a bank that was read clean is erased behind its rows
-pub open_erased : (a b : FlashState) (held : Durable) (live end : ℕ) (is_clean : Bool) → IsFlash card_blocks a → OnlyReads a b → live < 2
-    → IsPlaceIn (bank_of live) end → IsTrue is_clean → IfSome a.bytes (λ image. IsTrue is_clean ↔ EndsClean held live end image)
-    → IfSome b.bytes (IsErased end (end_of (bank_of live) - end))
-open_erased a b held live end is_clean lawful reads below place says clean = from_each b.bytes _ (λ image is.
-    let was : a.bytes ≡ Some image = sym reads.bytes ∙ is in
-    ends_erased held live end image below place (flash_size card_blocks a lawful image was)
-    ((at_some a.bytes (λ i. IsTrue is_clean ↔ EndsClean held live end i) image was clean).0 says))
+-- a flash that holds one card
+pub one_throughout : (a b : FlashState) (held : Durable)
+    → ((one other : Durable) → MayLeaveOnly a (HoldsEither one other) → Throughout (HoldsEither one other) a b)
+    → MayLeaveOnly a (λ content. HoldsCard content held) → Throughout (λ content. HoldsCard content held) a b
+one_throughout a b held over each =
+    Throughout-weaken a b (HoldsEither held held) (λ content. HoldsCard content held) (λ content either. ⊎_elim (λ x. x) (λ x. x) either)
+    (over held held (MayLeaveOnly-weaken a (λ content. HoldsCard content held) (HoldsEither held held) (λ content its. inl its) each))
+
+-- over a restart of the flash, and calls that keep either of two cards
+module _ {E : Type 0} (a m b : FlashState) (first : IsFlash card_blocks a) (second : IsFlash card_blocks m) (third : IsFlash card_blocks b)
+    (result : Result Unit E) (restarts : Restarts a m result) where
+  pub restart_throughout : (P : List ℕ → Type 0) → MayLeaveOnly a P → Throughout P a m
+  restart_throughout P each = Throughout-restart card_blocks a a m P first second (Throughout-begin card_blocks a P first each) result restarts
+
+  pub restart_opened : (card : Durable) → IfSome m.bytes (λ image. HoldsCard image card) → (one other : Durable) → MayLeaveOnly a (HoldsEither one other)
+      → IsSome a.bytes → (card ≡ one) ⊎ (card ≡ other)
+  restart_opened card holds one other each some =
+      let it = known m.bytes (restarts.time.bytes_known.0 some) in
+      card_is m card one other second holds (restart_throughout (HoldsEither one other) each).may_leave it.0 it.1
+
+  pub reopen_throughout : (P : List ℕ → Type 0) → MayLeaveOnly a P → (MayLeaveOnly m P → Throughout P m b) → Throughout P a b
+  reopen_throughout P each over =
+      let through = restart_throughout P each in Throughout-trans card_blocks a m b P third through (over through.may_leave)
+
+-- what was read clean ends so
+pub clean_known : (a : FlashState) (held : Durable) (live end : ℕ) (is_clean : Bool) → IsTrue is_clean
+    → IfSome a.bytes (λ image. IsTrue is_clean ↔ EndsClean held live end image) → IfSome a.bytes (EndsClean held live end)
+clean_known a held live end is_clean says clean = from_each a.bytes _ (λ image is.
+    (at_some a.bytes (λ i. IsTrue is_clean ↔ EndsClean held live end i) image is clean).0 says)
+
+-- and still after reads
+pub open_ends : (a b : FlashState) (held : Durable) (live end : ℕ) (is_clean : Bool) → OnlyReads a b → IsTrue is_clean
+    → IfSome a.bytes (λ image. IsTrue is_clean ↔ EndsClean held live end image) → IfSome b.bytes (EndsClean held live end)
+open_ends a b held live end is_clean reads says clean =
+    reads_ends a b (EndsClean held live end) reads (clean_known a held live end is_clean says clean)
+
+-- a flash that keeps a card, or that after a record, holds one
+held_some : (held : Durable) (unrepaired : Option Record) (image : List ℕ) → HoldsWith held unrepaired image
+    → ((other : Durable) → HoldsCard image other → ⊥) → ⊥
+held_some held None image holds none = none held holds
+held_some held (Some entry) image holds none = ⊎_elim (λ its. none held its) (λ its. none (apply held entry) its) holds
+
+pub never_none : (s : FlashState) (held : Durable) (unrepaired : Option Record) → IsFlash card_blocks s → MayLeaveOnly s (HoldsWith held unrepaired)
+    → IfSome s.bytes (λ image. (other : Durable) → HoldsCard image other → ⊥) → IsSome s.bytes → ⊥
+never_none s held unrepaired lawful kept none some =
+    let it = known s.bytes some in
+    held_some held unrepaired it.0 (MayLeaveOnly-bytes card_blocks s (HoldsWith held unrepaired) lawful kept it.0 it.1)
+    (at_some s.bytes (λ image. (other : Durable) → HoldsCard image other → ⊥) it.0 it.1 none)
+
+-- what is opened again is held, or is that after the record
+pub reopened : (a : FlashState) (held : Durable) (unrepaired : Option Record) (after : Durable) → MayLeaveOnly a (HoldsWith held unrepaired)
+    → ((one other : Durable) → MayLeaveOnly a (HoldsEither one other) → IsSome a.bytes → (after ≡ one) ⊎ (after ≡ other))
+    → IsSome a.bytes → IsHeldWith held unrepaired after
+reopened a held None after kept is some =
+    ⊎_elim (λ x. x) (λ x. x) (is held held (MayLeaveOnly-weaken a (HoldsWith held None) (HoldsEither held held) (λ image holds. inl holds) kept) some)
+reopened a held (Some entry) after kept is some = is held (apply held entry) kept some
+
+pub on_ok_map : {T E : Type 0} (r : Result T E) (P Q : T → Type 0) → ((x : T) → P x → Q x) → IfOk r P → IfOk r Q
+on_ok_map (Ok x) P Q then holds = then x holds
+on_ok_map (Err e) P Q then holds = tt
+
+pub on_ok : {T E : Type 0} (r : Result T E) (P Q : Type 0) → OnOk r P → (P → Q) → OnOk r Q
+on_ok (Ok x) P Q holds then = then holds
+on_ok (Err e) P Q holds then = tt

@@ -1,5 +1,6 @@
 -- A switch to the idle bank.
-use Rattle.std.proofs.Common.{◌≡◌, ◌≢◌, ◌⊎◌, inl, inr, ℕ, zero, suc, ◌+◌, ◌-◌, ◌*◌, ◌<◌, ◌≤◌, IsTrue, is_ok, List, [], ◌∷◌, length, map, slice_index, Some, None, IfSome, Result, sym, ◌∙◌, ap, subst, arith}
+use Rattle.std.proofs.Common.{◌≡◌, ◌≢◌, ◌⊎◌, inl, inr, ℕ, zero, suc, ◌+◌, ◌-◌, ◌*◌, ◌<◌, ◌≤◌, IsTrue, is_ok, List, [], ◌∷◌, length, map, slice_index, Option, Some, None, IfSome, Result, sym, ◌∙◌, ap, subst, arith}
+use Rattle.std.specs.Prelude.{⊤}
 use Rattle.std.proofs.lemmas.Bool.{cases_eq}
 use Rattle.flash_pages.specs.Append.{EndsBlank}
 use Rattle.flash_pages.specs.Bank.{bank_bytes, start_of}
@@ -7,7 +8,7 @@ use Rattle.flash_pages.specs.Bytes.{DiffersIn, IsErased, patch}
 use Rattle.flash_pages.specs.Flash.{Changes, FlashState, IsFlash, MayLeaveOnly, Reads, Throughout, Touches, card_blocks}
 use Rattle.flash_pages.specs.Rows.{HasRows}
 use Rattle.flash_pages.specs.Switch.{IsNextByte, SwitchesTo, live_of}
-use Rattle.flash_pages.proofs.Patches.{DiffersIn-patch, part_outside}
+use Rattle.flash_pages.proofs.Patches.{DiffersIn-patch, part-DiffersIn, part-patch, part_outside}
 use Rattle.flash_pages.proofs.SwitchByte.{next_erased, one_next_byte, opened_in, switches_in}
 use Rattle.flash_pages.proofs.Throughout.{MayLeaveOnly-settled, Throughout-begin, Throughout-change, Throughout-read, Throughout-touch}
 use Rattle.flash_pages.proofs.Touched.{at_some, flash_size, from_each, known_before, same_some}
@@ -17,6 +18,7 @@ use Rattle.record_codec.specs.declared.durable.Durable.{Durable}
 use Rattle.card_journal.specs.Copy.{HoldsCopy, copy_of}
 use Rattle.card_journal.specs.Image.{HoldsCard, bank_of, live_bytes, switch_row}
 use Rattle.card_journal.specs.Stored.{EndsClean, HoldsEither, IsStored}
+use Rattle.card_journal.specs.Switched.{FromTo, IsSwitched, KeepsSwitchRow, copy_bodies}
 use Rattle.card_journal.proofs.AppendLemmas.{holds_card}
 use Rattle.card_journal.proofs.CopyRowLemmas.{copy_ends}
 
@@ -115,6 +117,28 @@ pub record WritesCopy (start read copied : FlashState) (live next : ℕ) : Type 
   pub reads : Reads start read
   pub touches : Touches (start_of (bank_of (1 - live))) (4096 * 1216) read copied
 
+-- the same by what `read_switch` and `write_copy` return
+pub writes_copy : (start read copied : FlashState) (live next : ℕ) (its : Option ℕ) → IsFlash card_blocks start → IsFlash card_blocks read
+    → IsFlash card_blocks copied → live < 2 → IfSome its (λ n. n < 4096) → its ≡ Some next
+    → IfSome start.bytes (λ bytes. live ≡ live_of (switch_row bytes)) → IfSome start.bytes (λ bytes. IsNextByte (switch_row bytes) its)
+    → Reads start read → Touches (start_of (bank_of (1 - live))) (4096 * 1216) read copied → WritesCopy start read copied live next
+writes_copy start read copied live next its first second third below within is live_is next_is reads touches = record {
+  first = first;
+  second = second;
+  third = third;
+  below = below;
+  within = at_some its (λ (n : ℕ). n < 4096) next is within;
+  live_is = live_is;
+  next_is = subst (λ (o : Option ℕ). IfSome start.bytes (λ bytes. IsNextByte (switch_row bytes) o)) is next_is;
+  reads = reads;
+  touches = touches;
+}
+
+-- where the bytes stay, so does the switch row
+pub row_same : (a b : FlashState) (needed : Type 0) → b.bytes ≡ a.bytes → FromTo a b (KeepsSwitchRow needed)
+row_same a b needed same = from_each a.bytes _ (λ before is. from_each b.bytes _ (λ after is_after.
+    inl (ap switch_row (same_some after before (sym is_after ∙ same ∙ is)))))
+
 module _ (start read copied : FlashState) (live next : ℕ) (writes : WritesCopy start read copied live next) where
   -- the bytes that were read, from which the present ones differ in the idle bank alone
   was_read : (bytes : List ℕ) → copied.bytes ≡ Some bytes
@@ -154,6 +178,12 @@ module _ (start read copied : FlashState) (live next : ℕ) (writes : WritesCopy
       at_some start.bytes (λ x. live ≡ live_of (switch_row x)) bytes (sym writes.reads.bytes ∙ is) writes.live_is in
       same_live held other bytes content (idle_apart live bytes content writes.below differs live_is) holds)
 
+  -- the copy leaves the switch row
+  pub copy_row : FromTo start copied (KeepsSwitchRow ⊤)
+  copy_row = from_each start.bytes _ (λ before is. from_each copied.bytes _ (λ after is_after.
+      let was = was_read after is_after in
+      inl (same_row live was.0 after writes.below was.2 ∙ ap switch_row (same_some was.0 before (sym was.1 ∙ is)))))
+
   module _ {E : Type 0} (held : Durable) (are : IsDurable held) (end : ℕ) (flipped : FlashState) (fourth : IsFlash card_blocks flipped)
       (copy : IfSome copied.bytes (HoldsCopy held (1 - live) end)) (result : Result Unit E) (changes : Changes next (0 ∷ []) copied flipped result) where
     pub flip_throughout : (other : Durable) → MayLeaveOnly start (HoldsEither held other) → Throughout (HoldsEither held other) start flipped
@@ -187,3 +217,54 @@ module _ (start read copied : FlashState) (live next : ℕ) (writes : WritesCopy
           (from_each flipped.bytes _ (λ now is_now.
           holds_card held (1 - live) end now (at_some flipped.bytes (EndsClean held (1 - live) end) now is_now (flip_bytes ok))));
     }
+
+    -- and the switch byte is the next byte of it
+    flip_uses : (before after : List ℕ) → start.bytes ≡ Some before → flipped.bytes ≡ Some after
+        → (mid : List ℕ) × (copied.bytes ≡ Some mid) × (switch_row mid ≡ switch_row before)
+    flip_uses before after is is_after =
+        let mid = known_before copied flipped changes.time after is_after in
+        let was = was_read mid.0 mid.1 in (
+          mid.0,
+          mid.1,
+          same_row live was.0 mid.0 writes.below was.2 ∙ ap switch_row (same_some was.0 before (sym was.1 ∙ is)),
+        )
+
+    pub flip_row : FromTo start flipped (KeepsSwitchRow ⊤)
+    flip_row = from_each start.bytes _ (λ before is. from_each flipped.bytes _ (λ after is_after.
+        let mid = flip_uses before after is is_after in
+        let size = flash_size card_blocks copied writes.third mid.0 mid.1 in
+        let torn : DiffersIn next 1 mid.0 after = at_some flipped.bytes (DiffersIn next 1 mid.0) after is_after
+        (at_some copied.bytes (λ x. IfSome flipped.bytes (DiffersIn next 1 x)) mid.0 mid.1 changes.torn) in
+        let here : 0 + next ≡ next = omega arith in
+        let in_row : DiffersIn next 1 (switch_row mid.0) (switch_row after) =
+        part-DiffersIn 0 4096 next 1 (omega (arith, writes.within)) mid.0 after
+        (subst (λ (k : ℕ). DiffersIn k 1 mid.0 after) (sym here) torn) in
+        inr (
+          tt,
+          record {
+            next = next;
+            is_next = at_some start.bytes (λ x. IsNextByte (switch_row x) (Some next)) before is writes.next_is;
+            differs = subst (λ (row : List ℕ). DiffersIn next 1 row (switch_row after)) mid.2 in_row;
+          },
+        )))
+
+    pub flip_switched : IsTrue (is_ok result) → FromTo start flipped (IsSwitched (copy_bodies held) (1 - live) end)
+    flip_switched ok = from_each start.bytes _ (λ before is. from_each flipped.bytes _ (λ after is_after.
+        let mid = flip_uses before after is is_after in
+        let size = flash_size card_blocks copied writes.third mid.0 mid.1 in
+        let patched = at_some copied.bytes (λ l. flipped.bytes ≡ Some (patch l next (0 ∷ []))) mid.0 mid.1 (changes.done ok) in
+        let after_is : patch mid.0 next (0 ∷ []) ≡ after = same_some (patch mid.0 next (0 ∷ [])) after (sym patched ∙ is_after) in
+        let here : 0 + next ≡ next = omega arith in
+        let row : switch_row (patch mid.0 (0 + next) (0 ∷ [])) ≡ patch (switch_row mid.0) next (0 ∷ []) =
+        part-patch 0 4096 next mid.0 (0 ∷ []) (omega (arith, writes.within)) (omega (arith, size, writes.within)) in
+        let differs : DiffersIn next 1 mid.0 (patch mid.0 next (0 ∷ [])) = DiffersIn-patch mid.0 next (0 ∷ []) (omega (arith, size, writes.within)) in
+        let behind : bank_bytes (bank_of (1 - live)) (patch mid.0 next (0 ∷ [])) ≡ bank_bytes (bank_of (1 - live)) mid.0 =
+        part_outside next 1 mid.0 (patch mid.0 next (0 ∷ [])) differs (start_of (bank_of (1 - live))) (4096 * 1216) (inr (omega (arith, writes.within))) in
+        let copy_at : HoldsCopy held (1 - live) end mid.0 = at_some copied.bytes (HoldsCopy held (1 - live) end) mid.0 mid.1 copy in
+        subst (λ (l : List ℕ). IsSwitched (copy_bodies held) (1 - live) end before l) after_is (record {
+          next = next;
+          is_next = at_some start.bytes (λ x. IsNextByte (switch_row x) (Some next)) before is writes.next_is;
+          row = ap (λ (k : ℕ). switch_row (patch mid.0 k (0 ∷ []))) (sym here) ∙ row ∙ ap (λ (l : List ℕ). patch l next (0 ∷ [])) mid.2;
+          other = ap (λ (k : ℕ). 1 - k) (at_some start.bytes (λ x. live ≡ live_of (switch_row x)) before is writes.live_is);
+          rows = subst (λ (l : List ℕ). EndsBlank l (copy_bodies held) (end - start_of (bank_of (1 - live)))) (sym behind) copy_at.rows;
+        })))

@@ -1,7 +1,10 @@
+pub mod CardState
 pub mod CommitFault
 pub mod Copy
 pub mod CopyBody
 pub mod Image
+pub mod Made
+pub mod MakeFault
 pub mod Next
 pub mod NotOpened
 pub mod OpenFault
@@ -12,3 +15,4 @@ pub mod RecordSizes
 pub mod Store
 pub mod StoreState
 pub mod Stored
+pub mod Switched

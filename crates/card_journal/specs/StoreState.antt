@@ -1,13 +1,12 @@
 -- What contracts see of a store.
-use Rattle.std.specs.Prelude.{ℕ, ◌≡◌, ◌⊎◌, ◌<◌, ◌≤◌, ◌+◌, ◌-◌, length, Option, Some, None, IfSome}
+use Rattle.std.specs.Prelude.{ℕ, ◌≡◌, List, ◌<◌, ◌≤◌, ◌+◌, length, Option, Some, None, IfSome, IsSome}
 use Rattle.flash_pages.specs.Bank.{IsPlaceIn, end_of}
-use Rattle.flash_pages.specs.Bytes.{IsErased}
-use Rattle.flash_pages.specs.Flash.{FlashState, LeavesOnly, MayLeaveOnly}
+use Rattle.flash_pages.specs.Flash.{FlashState}
 use Rattle.flash_pages.specs.Switch.{IsNextByte}
+use Rattle.card_journal.specs.CardState.{CardState, IsAtomic, IsHeldWith, IsKept}
 use Rattle.card_journal.specs.Image.{HoldsCard, MakesCard, bank_of, switch_row}
 use Rattle.card_journal.specs.Read.{OnlyReads}
-use Rattle.card_journal.specs.Stored.{EndsTorn, HoldsWith, IsStored}
-use Rattle.record_codec.specs.Apply.{apply}
+use Rattle.card_journal.specs.Stored.{EndsClean, EndsTorn}
 use Rattle.record_codec.specs.FitsCard.{FitsCard}
 use Rattle.record_codec.specs.IsDurable.{IsDurable}
 use Rattle.record_codec.specs.Spelling.{spelling}
@@ -25,23 +24,22 @@ pub record StoreState : Type 1 where
   pub end : ℕ
 
 -- What a call needs, so that it programs erased bytes alone: what is held is what a card may hold,
--- and where no record is unrepaired the live bank reads FF behind its open rows.
+-- and where no record is unrepaired the flash reads as that, up to the end of the open rows of the
+-- live bank, and as FF behind them.
 pub record IsUsable (store : StoreState) : Type 0 where
   pub valid : IsDurable store.held
   pub bank : store.live < 2
   pub place : IsPlaceIn (bank_of store.live) store.end
-  pub erased : store.unrepaired ≡ None → IfSome store.flash.bytes
-      (IsErased store.end (end_of (bank_of store.live) - store.end))
+  pub ends : store.unrepaired ≡ None → IfSome store.flash.bytes
+      (EndsClean store.held store.live store.end)
 
--- The flash keeps what the store holds: it holds that, in the live bank, and so does each content
--- that a restart may leave. Where a record is unrepaired, each of these holds that, or that after
--- the record.
-abbrev pub FlashKeeps : FlashState → Durable → Option Record → ℕ → ℕ → Type 0
-FlashKeeps flash held None live end = IsStored flash held live end
-FlashKeeps flash held (Some entry) live end = MayLeaveOnly flash (HoldsWith held (Some entry))
+-- what contracts see of any store of a card
+abbrev pub card_of : StoreState → CardState
+card_of store =
+    record { held = store.held; unrepaired = store.unrepaired; flash = store.flash }
 
 abbrev pub KeepsCard : StoreState → Type 0
-KeepsCard store = FlashKeeps store.flash store.held store.unrepaired store.live store.end
+KeepsCard store = IsKept HoldsCard (card_of store)
 
 -- a commit takes the record: it fits what is held, and makes no new card
 pub record MayCommit (held : Durable) (entry : Record) : Type 0 where
@@ -72,6 +70,10 @@ pub record IsNotOpenedWorn (old new : FlashState) : Type 0 where
   pub worn : IsWorn old
   pub reads : OnlyReads old new
 
+-- A store that was opened again holds what it held, or that after the record that was unrepaired.
+abbrev pub Reopens : StoreState → StoreState → Type 0
+Reopens old new = IsSome old.flash.bytes → IsHeldWith old.held old.unrepaired new.held
+
 -- A commit that was refused since the switch row is used up: it needed a switch, the flash was only
 -- read, and what is unrepaired is as before.
 pub record IsRefusedWorn (old new : StoreState) (entry : Record) : Type 0 where
@@ -83,7 +85,13 @@ pub record IsRefusedWorn (old new : StoreState) (entry : Record) : Type 0 where
 -- A commit of a record: at each moment since it began the flash holds what was held, or that after
 -- the record that was unrepaired, or after this one. From its end on the flash keeps what the store
 -- then holds.
-pub record Commits (old new : StoreState) (entry : Record) : Type 0 where
-  pub images : LeavesOnly old.flash new.flash
-      (λ image. HoldsWith old.held old.unrepaired image ⊎ HoldsCard image (apply old.held entry))
-  pub keeps : KeepsCard new
+abbrev pub Commits : StoreState → StoreState → Record → Type 0
+Commits old new entry = IsAtomic HoldsCard (card_of old) (card_of new) entry
+
+-- an opening of the image needs a switch, whatever the number of its switch row
+abbrev pub OpensTorn : List ℕ → ℕ → Type 0
+OpensTorn image row = EndsTorn image
+
+-- the switch row of the image has no byte to use, whatever its number
+abbrev pub IsUsedUp : ℕ → List ℕ → Type 0
+IsUsedUp row image = IsNextByte (switch_row image) None

@@ -4,6 +4,7 @@ use Rattle.flash_pages.specs.Append.{EndsBlank}
 use Rattle.flash_pages.specs.Bank.{bank_bytes, start_of}
 use Rattle.flash_pages.specs.Flash.{FlashState, MayLeaveOnly, Throughout}
 use Rattle.flash_pages.specs.Switch.{live_of}
+use Rattle.card_journal.specs.CardState.{HoldsOneOf}
 use Rattle.card_journal.specs.Image.{AreCodings, HoldsCard, Leave, bank_of, switch_row}
 use Rattle.record_codec.specs.Apply.{apply}
 use Rattle.record_codec.specs.declared.durable.Durable.{Durable}
@@ -15,8 +16,7 @@ HoldsEither one other image = HoldsCard image one ⊎ HoldsCard image other
 
 -- the image holds this, or this after the record, if there is one
 abbrev pub HoldsWith : Durable → Option Record → List ℕ → Type 0
-HoldsWith held None image = HoldsCard image held
-HoldsWith held (Some entry) image = HoldsEither held (apply held entry) image
+HoldsWith held unrepaired image = HoldsOneOf HoldsCard held unrepaired image
 
 -- this bank is the live one, its open rows are the codings of records that leave this, and from
 -- this place on all its bytes are FF

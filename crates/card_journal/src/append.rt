@@ -1,11 +1,12 @@
 // The row of a record, behind the open rows of the live bank.
-ghost use Rattle.std.specs.Prelude.{◌≡◌, ◌<◌, ◌≤◌, ◌+◌, length, IfOk, IfSome};
+ghost use Rattle.std.specs.Prelude.{◌≡◌, ◌<◌, ◌≤◌, ◌+◌, length, IfOk, IfSome, OnOk};
 ghost use Rattle.port_io.specs.Faults.{FailsOnlyWhereRose};
 ghost use Rattle.card_journal.specs.Image.{MakesCard, bank_of};
-ghost use Rattle.card_journal.specs.Stored.{AppendsRecord, IsStored};
+ghost use Rattle.card_journal.specs.Stored.{AppendsRecord, EndsClean, IsStored};
 ghost use Rattle.flash_pages.specs.Append.{AppendsRow, LeavesTornRow};
 ghost use Rattle.flash_pages.specs.Bank.{IsPlaceIn, end_of};
 ghost use Rattle.flash_pages.specs.Bytes.{IsErased};
+ghost use Rattle.record_codec.specs.Apply.{apply};
 ghost use Rattle.record_codec.specs.FitsCard.{FitsCard};
 ghost use Rattle.record_codec.specs.Sizes.{HasSizes};
 ghost use Rattle.record_codec.specs.Spelling.{spelling};
@@ -46,6 +47,11 @@ pub(crate) fn append_record<F: Flash>(
     ensures next { IfOk result (λ next. next ≡ end + 5 + length (spelling entry.now)) }
     ensures appends { AppendsRow end (spelling entry.now) (F.state flash.old)
         (F.state flash.new) result }
+
+    ensures ends { (held : Durable) → FitsCard held entry.now → ¬ MakesCard entry.now
+        → IfSome (F.state flash.old).bytes (EndsClean held live end)
+        → OnOk result (IfSome (F.state flash.new).bytes (EndsClean (apply held entry.now) live
+        (end + 5 + length (spelling entry.now)))) }
 
     ensures stored { (held : Durable) → FitsCard held entry.now → ¬ MakesCard entry.now
         → IsStored (F.state flash.old) held live end

@@ -1,13 +1,15 @@
 // What a flash holds, read when a store is opened.
-ghost use Rattle.std.specs.Prelude.{◌≡◌, ◌↔◌, ◌<◌, ◌-◌, IfOk, IfSome, IsErrOf, IsTrue, OnOk};
+ghost use Rattle.std.specs.Prelude.{◌≡◌, ◌↔◌, ◌<◌, ◌⊎◌, ℕ, IfOk, IfSome, IsErrOf, IsSome, IsTrue, OnOk};
 ghost use Rattle.port_io.specs.Faults.{OnlyWhereRose};
+ghost use Rattle.card_journal.specs.CardState.{CameBack};
 ghost use Rattle.card_journal.specs.Image.{HoldsCard, bank_of};
 ghost use Rattle.card_journal.specs.NotOpened.{fault_of};
 ghost use Rattle.card_journal.specs.Read.{OnlyReads};
-ghost use Rattle.card_journal.specs.StoreState.{HasNextByte, IsNotOpenedWorn};
-ghost use Rattle.card_journal.specs.Stored.{EndsClean, EndsTorn, IsStored};
-ghost use Rattle.flash_pages.specs.Bank.{IsPlaceIn, end_of};
-ghost use Rattle.flash_pages.specs.Bytes.{IsErased};
+ghost use Rattle.card_journal.specs.StoreState.{HasNextByte, IsNotOpenedWorn, IsUsedUp, IsWorn};
+ghost use Rattle.card_journal.specs.StoreState.{OpensTorn};
+ghost use Rattle.card_journal.specs.Stored.{EndsClean, EndsTorn, HoldsEither};
+ghost use Rattle.card_journal.specs.Switched.{FromTo, IsSwitched, KeepsSwitchRow, copy_bodies};
+ghost use Rattle.flash_pages.specs.Bank.{IsPlaceIn};
 ghost use Rattle.flash_pages.specs.Flash.{GoesOn, IsSettled, MayLeaveOnly, Throughout};
 ghost use Rattle.record_codec.specs.IsDurable.{IsDurable};
 ghost use Rattle.record_codec.specs.declared.durable.Durable.{Durable};
@@ -85,11 +87,10 @@ impl NotOpened {
 /// Reads the card that a flash holds, and switches to the idle bank where a byte behind its rows
 /// isn't FF.
 pub(crate) fn open_card<F: Flash>(alloc: Global, flash: &mut F) -> Result<Opened, NotOpened>
-    ensures stored { IfOk result (λ opened.
-        IsSettled (F.state flash.old)
-        → IsStored (F.state flash.new) opened.held opened.live opened.end) }
-    ensures erased { IfOk result (λ opened. IfSome (F.state flash.new).bytes
-        (IsErased opened.end (end_of (bank_of opened.live) - opened.end))) }
+    ensures kept { IfOk result (λ opened. IsSettled (F.state flash.old)
+        → MayLeaveOnly (F.state flash.new) (λ content. HoldsCard content opened.held)) }
+    ensures ends { IfOk result (λ opened. IfSome (F.state flash.new).bytes
+        (EndsClean opened.held opened.live opened.end)) }
     ensures holds { IfOk result (λ opened. IfSome (F.state flash.old).bytes
         (λ image. HoldsCard image opened.held)) }
     ensures valid { IfOk result (λ opened. IsDurable opened.held) }
@@ -97,9 +98,19 @@ pub(crate) fn open_card<F: Flash>(alloc: Global, flash: &mut F) -> Result<Opened
     ensures place { IfOk result (λ opened. IsPlaceIn (bank_of opened.live) opened.end) }
     ensures card { IsErrOf result (NotOpened.Read ReadFault.NotACard)
         → IfSome (F.state flash.old).bytes (λ image. (held : Durable) → ¬ HoldsCard image held) }
-    ensures throughout { (held : Durable)
-        → MayLeaveOnly (F.state flash.old) (λ content. HoldsCard content held)
-        → Throughout (λ content. HoldsCard content held) (F.state flash.old) (F.state flash.new) }
+    ensures unchanged { IsErrOf result (NotOpened.Read ReadFault.NotACard)
+        → (F.state flash.new).bytes ≡ (F.state flash.old).bytes }
+    ensures throughout { (one other : Durable)
+        → MayLeaveOnly (F.state flash.old) (HoldsEither one other)
+        → Throughout (HoldsEither one other) (F.state flash.old) (F.state flash.new) }
+    ensures only_reads { OnOk result (IfSome (F.state flash.old).bytes (λ image. (held : Durable)
+        (live end : ℕ) → EndsClean held live end image
+        → OnlyReads (F.state flash.old) (F.state flash.new))) }
+    ensures row { FromTo (F.state flash.old) (F.state flash.new)
+        (λ before after. KeepsSwitchRow (EndsTorn before) before after) }
+    ensures switched { IfOk result (λ opened. FromTo (F.state flash.old) (F.state flash.new)
+        (λ before after. EndsTorn before
+        → IsSwitched (copy_bodies opened.held) opened.live opened.end before after)) }
     ensures next { OnOk result (IfSome (F.state flash.old).bytes EndsTorn
         → HasNextByte (F.state flash.old)) }
     ensures worn { IsErrOf result NotOpened.Worn
@@ -124,5 +135,36 @@ pub(crate) fn open_card<F: Flash>(alloc: Global, flash: &mut F) -> Result<Opened
         }),
         Err(SwitchFault::Flash) => Err(NotOpened::Read(ReadFault::Flash)),
         Err(SwitchFault::Worn) => Err(NotOpened::Worn),
+    }
+}
+
+/// Power on again, and opens the card that the flash then holds. Where each content that a restart
+/// may leave holds one of two cards, so does each image of the call, and one of them is opened.
+pub(crate) fn reopen_card<F: Flash>(alloc: Global, flash: &mut F) -> Result<Opened, NotOpened>
+    ensures kept { IfOk result (λ opened.
+        MayLeaveOnly (F.state flash.new) (λ content. HoldsCard content opened.held)) }
+    ensures ends { IfOk result (λ opened. IfSome (F.state flash.new).bytes
+        (EndsClean opened.held opened.live opened.end)) }
+    ensures valid { IfOk result (λ opened. IsDurable opened.held) }
+    ensures bank { IfOk result (λ opened. opened.live < 2) }
+    ensures place { IfOk result (λ opened. IsPlaceIn (bank_of opened.live) opened.end) }
+    ensures is { IfOk result (λ opened. (one other : Durable)
+        → MayLeaveOnly (F.state flash.old) (HoldsEither one other)
+        → IsSome (F.state flash.old).bytes → (opened.held ≡ one) ⊎ (opened.held ≡ other)) }
+    ensures throughout { (one other : Durable)
+        → MayLeaveOnly (F.state flash.old) (HoldsEither one other)
+        → Throughout (HoldsEither one other) (F.state flash.old) (F.state flash.new) }
+    ensures came { OnOk result (CameBack OpensTorn IsUsedUp (F.state flash.old)) }
+    ensures card { IsErrOf result (NotOpened.Read ReadFault.NotACard)
+        → IfSome (F.state flash.new).bytes (λ image. (held : Durable) → ¬ HoldsCard image held) }
+    ensures worn { IsErrOf result NotOpened.Worn
+        → IfSome (F.state flash.new).bytes EndsTorn × IsWorn (F.state flash.new) }
+    ensures time { GoesOn (F.state flash.old) (F.state flash.new) }
+    ensures cause { OnlyWhereRose (IsErrOf result (NotOpened.Read ReadFault.Flash))
+        (F.state flash.old).faults (F.state flash.new).faults }
+{
+    match flash.restart() {
+        Ok(()) => open_card(alloc, flash),
+        Err(_) => Err(NotOpened::Read(ReadFault::Flash)),
     }
 }

@@ -1,18 +1,23 @@
-ghost use Rattle.std.specs.Prelude.{◌≡◌, ◌≢◌, ◌≤◌, ◌+◌, ◌⊎◌, ◌↔◌, None, Some, length};
-ghost use Rattle.std.specs.Prelude.{IfErr, IfOk, IfSome, IsErrOf, IsOk, IsTrue, OnErr, OnOk};
+ghost use Rattle.std.specs.Prelude.{◌≡◌, ◌≢◌, ◌≤◌, ◌+◌, ◌⊎◌, ◌↔◌, ⊤, ℕ, None, Some, length};
+ghost use Rattle.std.specs.Prelude.{IfErr, IfOk, IfSome, IsErrOf, IsOk, IsSome, IsTrue, OnErr, OnOk};
 ghost use Rattle.port_io.specs.Faults.{FailsOnlyWhereRose, OnlyWhereRose};
+ghost use Rattle.card_journal.specs.CardState.{CameBack};
 ghost use Rattle.card_journal.specs.CommitFault.{IsCauseOf};
 ghost use Rattle.card_journal.specs.Image.{HoldsCard, bank_of};
+ghost use Rattle.card_journal.specs.Made.{HasPorts, HoldsNoneOr, IsBlank, made_card};
+ghost use Rattle.card_journal.specs.MakeFault.{IsRefused};
 ghost use Rattle.card_journal.specs.OpenFault.{HasRisen};
 ghost use Rattle.card_journal.specs.Read.{OnlyReads};
 ghost use Rattle.card_journal.specs.Store.{store_of};
 ghost use Rattle.card_journal.specs.StoreState.{Commits, HasNextByte, IsNotOpenedWorn, IsRefusedWorn, IsUsable};
-ghost use Rattle.card_journal.specs.StoreState.{IsWorn};
-ghost use Rattle.card_journal.specs.StoreState.{KeepsCard, MayCommit, NeedsSwitch, RowHasRoom};
-ghost use Rattle.card_journal.specs.Stored.{EndsTorn, HoldsWith};
+ghost use Rattle.card_journal.specs.StoreState.{IsUsedUp, IsWorn, OpensTorn};
+ghost use Rattle.card_journal.specs.StoreState.{KeepsCard, MayCommit, NeedsSwitch, Reopens, RowHasRoom};
+ghost use Rattle.card_journal.specs.Stored.{EndsClean, EndsTorn, HoldsWith};
+ghost use Rattle.card_journal.specs.Switched.{FromTo, IsSwitched, KeepsSwitchRow, bodies_with};
+ghost use Rattle.card_journal.specs.Switched.{copy_bodies};
 ghost use Rattle.flash_pages.specs.Append.{AppendsRow};
 ghost use Rattle.flash_pages.specs.Bank.{end_of};
-ghost use Rattle.flash_pages.specs.Flash.{GoesOn, IsSettled, MayLeaveOnly, Throughout};
+ghost use Rattle.flash_pages.specs.Flash.{GoesOn, IsSettled, LeavesOnly, MayLeaveOnly, Throughout};
 ghost use Rattle.record_codec.specs.Apply.{apply};
 ghost use Rattle.record_codec.specs.Heads.{IsHeld, held_content};
 ghost use Rattle.record_codec.specs.Room.{IsRoomFor};
@@ -20,13 +25,15 @@ ghost use Rattle.record_codec.specs.Spelling.{spelling};
 ghost use Rattle.record_codec.specs.declared.durable.Durable.{Durable};
 
 use crate::append::{append_record, bank_of};
+use crate::make::make_card;
 use crate::next::makes_card;
-use crate::open::open_card;
+use crate::open::{open_card, reopen_card};
 use crate::switch::{SwitchFault, switch};
-use crate::{CommitFault, OpenFault};
+use crate::{CommitFault, MakeFault, OpenFault};
 use file_rows::Content;
 use flash_pages::{BLOCK_LEN, Back, Flash};
 use port_io::Failed;
+use port_table::PortMode;
 use record_codec::{Durable, Heads, NoMemory, Record, Room, record_len};
 use std::alloc::Global;
 
@@ -45,6 +52,52 @@ pub struct BankStore<F> {
 }
 
 impl<F: Flash> BankStore<F> {
+    /// Makes a card on a blank flash, with no profile, the next profile number 1100 and the next
+    /// sequence number 1. It reads the whole flash first; one that isn't blank is left as it was,
+    /// and the first byte that isn't FF is named. A refusal hands the flash back as the call left
+    /// it. A power cut leaves no card or the new one; a flash on which that happened, or which
+    /// failed, may be neither blank nor hold a card.
+    pub fn make(
+        alloc: Global,
+        mut flash: F,
+        mode: PortMode,
+        ports: u8,
+        eid: [u8; 16],
+    ) -> Result<Self, Back<F, MakeFault>>
+        requires { HasPorts mode ports }
+        ensures usable { IfOk result (λ store. IsUsable (store_of F.state store)) }
+        ensures repaired { IfOk result (λ store. store.unrepaired ≡ None) }
+        ensures kept { IfOk result (λ store. KeepsCard (store_of F.state store)) }
+        ensures made { IfOk result (λ store. store.held ≡ made_card mode ports eid) }
+        ensures blank { OnOk result (IfSome (F.state flash).bytes IsBlank) }
+        ensures images { IfOk result (λ store. LeavesOnly (F.state flash) (F.state store.flash)
+            (HoldsNoneOr store.held)) }
+        ensures cut { IfErr result (λ back. IfSome (F.state flash).bytes IsBlank
+            → LeavesOnly (F.state flash) (F.state back.value)
+            (HoldsNoneOr (made_card mode ports eid))) }
+        ensures time { IfOk result (λ store. GoesOn (F.state flash) (F.state store.flash)) }
+        ensures refused { IfErr result (λ back.
+            IsRefused back.fault (F.state flash) (F.state back.value)) }
+    {
+        let before = flash.faults();
+        match make_card(alloc, &mut flash, mode, ports, eid) {
+            Ok(made) => Ok(BankStore {
+                flash,
+                held: made.held,
+                live: 0,
+                end: made.end,
+                unrepaired: None,
+            }),
+            Err(refused) => {
+                let after = flash.faults();
+                Err(Back {
+                    value: flash,
+                    fault: refused.into_fault(before, after),
+                })
+            }
+        }
+    }
+
     /// Opens the card that a flash holds. It reads the live bank, and switches to the other one
     /// where a byte behind the rows isn't FF. A refusal hands the flash back as the call left it.
     /// For each card that is held, and each content that a restart may leave, a power cut at any
@@ -64,6 +117,16 @@ impl<F: Flash> BankStore<F> {
             → MayLeaveOnly (F.state flash) (λ content. HoldsCard content held)
             → Throughout (λ content. HoldsCard content held) (F.state flash)
             (F.state back.value)) }
+        ensures only_reads { IfOk result (λ store. IfSome (F.state flash).bytes
+            (λ image. (held : Durable) (live end : ℕ) → EndsClean held live end image
+            → OnlyReads (F.state flash) (F.state store.flash))) }
+        ensures switched { IfOk result (λ store. FromTo (F.state flash) (F.state store.flash)
+            (λ before after. EndsTorn before
+            → IsSwitched (copy_bodies store.held) store.live store.end before after)) }
+        ensures row { IfOk result (λ store. FromTo (F.state flash) (F.state store.flash)
+            (λ before after. KeepsSwitchRow (EndsTorn before) before after)) }
+        ensures row_refused { IfErr result (λ back. FromTo (F.state flash) (F.state back.value)
+            (λ before after. KeepsSwitchRow (EndsTorn before) before after)) }
         ensures card { IfErr result (λ back. back.fault ≡ OpenFault.NotACard
             → IfSome (F.state flash).bytes (λ image. (held : Durable) → ¬ HoldsCard image held)) }
         ensures next { OnOk result (IfSome (F.state flash).bytes EndsTorn
@@ -89,6 +152,48 @@ impl<F: Flash> BankStore<F> {
                     fault: refused.into_fault(before, after),
                 })
             }
+        }
+    }
+
+    /// Power on again, and opens the card that the flash then holds, as `open_store` does. A refusal
+    /// leaves what is held as it was, and from then on only `restart` and `close` may be called.
+    /// At each moment the flash holds what was held, or that after the record that was unrepaired,
+    /// and so it is one of these that is opened. It is never answered that the flash holds no card
+    /// where the flash tells what it holds.
+    pub fn restart(&mut self) -> Result<(), OpenFault>
+        ensures usable { OnOk result (IsUsable (store_of F.state self.new)) }
+        ensures repaired { OnOk result (self.new.unrepaired ≡ None) }
+        ensures refused { OnErr result ((self.new.held ≡ self.old.held)
+            × (self.new.unrepaired ≡ self.old.unrepaired)) }
+        ensures reopens { OnOk result (KeepsCard (store_of F.state self.old)
+            → Reopens (store_of F.state self.old) (store_of F.state self.new)) }
+        ensures throughout { KeepsCard (store_of F.state self.old)
+            → Throughout (HoldsWith self.old.held self.old.unrepaired) (F.state self.old.flash)
+            (F.state self.new.flash) }
+        ensures kept { KeepsCard (store_of F.state self.old)
+            → KeepsCard (store_of F.state self.new) }
+        ensures card { IsErrOf result OpenFault.NotACard
+            → IfSome (F.state self.new.flash).bytes
+            (λ image. (held : Durable) → ¬ HoldsCard image held) }
+        ensures never { IsErrOf result OpenFault.NotACard → KeepsCard (store_of F.state self.old)
+            → ¬ IsSome (F.state self.old.flash).bytes }
+        ensures came { OnOk result (CameBack OpensTorn IsUsedUp (F.state self.old.flash)) }
+        ensures worn { IsErrOf result OpenFault.Worn
+            → IfSome (F.state self.new.flash).bytes EndsTorn × IsWorn (F.state self.new.flash) }
+        ensures time { GoesOn (F.state self.old.flash) (F.state self.new.flash) }
+        ensures cause { IfErr result (HasRisen (F.state self.old.flash).faults
+            (F.state self.new.flash).faults) }
+    {
+        let before = self.flash.faults();
+        match reopen_card(self.held.contents.allocator(), &mut self.flash) {
+            Ok(opened) => {
+                self.held = opened.held;
+                self.live = opened.live;
+                self.end = opened.end;
+                self.unrepaired = None;
+                Ok(())
+            }
+            Err(refused) => Err(refused.into_fault(before, self.flash.faults())),
         }
     }
 
@@ -145,6 +250,19 @@ impl<F: Flash> BankStore<F> {
         ROW_HEAD_LEN + record_len(entry) <= left
     }
 
+    // Whether a commit of the record switches to the other bank first.
+    fn needs_switch(&self, entry: &Record) -> bool
+        requires usable { IsUsable (store_of F.state self.now) }
+        requires takes { MayCommit self.now.held entry.now }
+        ensures needs { IsTrue result → NeedsSwitch (store_of F.state self.now) entry.now }
+        ensures ready { ¬ IsTrue result → (self.now.unrepaired ≡ None)
+            × RowHasRoom (store_of F.state self.now) entry.now }
+        ensures short { 5 + length (spelling entry.now) ≤ 77605 }
+    {
+        let has_room = self.has_room(entry);
+        self.unrepaired.is_some() || !has_room
+    }
+
     // Switches to the idle bank. Where the flash fails, the record or the one of before is
     // unrepaired.
     fn repair(&mut self, copy: Record) -> Result<Record, SwitchFault>
@@ -161,6 +279,10 @@ impl<F: Flash> BankStore<F> {
             (F.state self.old.flash) (F.state self.new.flash) }
         ensures kept { KeepsCard (store_of F.state self.old)
             → KeepsCard (store_of F.state self.new) }
+        ensures row { FromTo (F.state self.old.flash) (F.state self.new.flash)
+            (KeepsSwitchRow ⊤) }
+        ensures switched { OnOk result (FromTo (F.state self.old.flash) (F.state self.new.flash)
+            (IsSwitched (copy_bodies self.old.held) self.new.live self.new.end)) }
         ensures next { OnOk result (HasNextByte (F.state self.old.flash)) }
         ensures worn { IsErrOf result SwitchFault.Worn → IsWorn (F.state self.old.flash) }
         ensures worn_same { IsErrOf result SwitchFault.Worn
@@ -206,6 +328,11 @@ impl<F: Flash> BankStore<F> {
         ensures ready { (self.old.unrepaired ≡ None)
             × RowHasRoom (store_of F.state self.old) entry.now
             → IsOk result × (self.new ≡ self.old) }
+        ensures row { FromTo (F.state self.old.flash) (F.state self.new.flash)
+            (KeepsSwitchRow (NeedsSwitch (store_of F.state self.old) entry.now)) }
+        ensures switched { OnOk result (NeedsSwitch (store_of F.state self.old) entry.now
+            → FromTo (F.state self.old.flash) (F.state self.new.flash)
+            (IsSwitched (copy_bodies self.old.held) self.new.live self.new.end)) }
         ensures next { OnOk result (NeedsSwitch (store_of F.state self.old) entry.now
             → HasNextByte (F.state self.old.flash)) }
         ensures worn { IsErrOf result SwitchFault.Worn → IsRefusedWorn
@@ -214,8 +341,7 @@ impl<F: Flash> BankStore<F> {
         ensures cause { OnlyWhereRose (IsErrOf result SwitchFault.Flash)
             (F.state self.old.flash).faults (F.state self.new.flash).faults }
     {
-        let has_room = self.has_room(entry);
-        if self.unrepaired.is_none() && has_room {
+        if !self.needs_switch(entry) {
             return Ok(copy);
         }
         self.repair(copy)
@@ -235,6 +361,9 @@ impl<F: Flash> BankStore<F> {
             × (self.new.unrepaired ≡ None)) }
         ensures refused { OnErr result ((self.new.held ≡ self.old.held)
             × (self.new.unrepaired ≡ Some entry.now)) }
+        ensures live { self.new.live ≡ self.old.live }
+        ensures end { OnOk result (self.new.end
+            ≡ self.old.end + 5 + length (spelling entry.now)) }
         ensures row { AppendsRow self.old.end (spelling entry.now) (F.state self.old.flash)
             (F.state self.new.flash) result }
         ensures throughout { KeepsCard (store_of F.state self.old)
@@ -281,6 +410,11 @@ impl<F: Flash> BankStore<F> {
             × RowHasRoom (store_of F.state self.old) entry.now
             → AppendsRow self.old.end (spelling entry.now) (F.state self.old.flash)
             (F.state self.new.flash) result }
+        ensures switch_row { FromTo (F.state self.old.flash) (F.state self.new.flash)
+            (KeepsSwitchRow (NeedsSwitch (store_of F.state self.old) entry.now)) }
+        ensures switched { OnOk result (NeedsSwitch (store_of F.state self.old) entry.now
+            → FromTo (F.state self.old.flash) (F.state self.new.flash)
+            (IsSwitched (bodies_with self.old.held entry.now) self.new.live self.new.end)) }
         ensures next { OnOk result (NeedsSwitch (store_of F.state self.old) entry.now
             → HasNextByte (F.state self.old.flash)) }
         ensures worn { IsErrOf result SwitchFault.Worn → IsRefusedWorn
@@ -317,6 +451,11 @@ impl<F: Flash> BankStore<F> {
             → result ≢ Err CommitFault.NoMemory
             → AppendsRow self.old.end (spelling entry.now) (F.state self.old.flash)
             (F.state self.new.flash) result }
+        ensures switch_row { FromTo (F.state self.old.flash) (F.state self.new.flash)
+            (KeepsSwitchRow (NeedsSwitch (store_of F.state self.old) entry.now)) }
+        ensures switched { OnOk result (NeedsSwitch (store_of F.state self.old) entry.now
+            → FromTo (F.state self.old.flash) (F.state self.new.flash)
+            (IsSwitched (bodies_with self.old.held entry.now) self.new.live self.new.end)) }
         ensures next { OnOk result (NeedsSwitch (store_of F.state self.old) entry.now
             → HasNextByte (F.state self.old.flash)) }
         ensures worn { IsErrOf result CommitFault.Worn → IsRefusedWorn

@@ -1,9 +1,10 @@
 // A switch to the idle bank.
-ghost use Rattle.std.specs.Prelude.{◌≡◌, ◌<◌, ◌≤◌, ◌+◌, None, IfOk, IfSome, IsErrOf, OnOk};
+ghost use Rattle.std.specs.Prelude.{◌≡◌, ◌<◌, ◌≤◌, ◌+◌, ⊤, None, IfOk, IfSome, IsErrOf, OnOk};
 ghost use Rattle.port_io.specs.Faults.{OnlyWhereRose};
 ghost use Rattle.card_journal.specs.Image.{bank_of, switch_row};
 ghost use Rattle.card_journal.specs.Read.{OnlyReads};
 ghost use Rattle.card_journal.specs.Stored.{HoldsEither, IsStored};
+ghost use Rattle.card_journal.specs.Switched.{FromTo, IsSwitched, KeepsSwitchRow, copy_bodies};
 ghost use Rattle.card_journal.specs.declared.switch.SwitchFault.TheVariants.{Flash as FlashFailed};
 ghost use Rattle.flash_pages.specs.Bank.{IsPlaceIn, end_of};
 ghost use Rattle.flash_pages.specs.Flash.{GoesOn, MayLeaveOnly, Throughout};
@@ -58,6 +59,9 @@ pub(crate) fn switch<F: Flash>(flash: &mut F, held: &Durable) -> Result<Live, Sw
         (λ image. IsNextByte (switch_row image) None) }
     ensures worn_reads { IsErrOf result SwitchFault.Worn
         → OnlyReads (F.state flash.old) (F.state flash.new) }
+    ensures row { FromTo (F.state flash.old) (F.state flash.new) (KeepsSwitchRow ⊤) }
+    ensures switched { IfOk result (λ live. FromTo (F.state flash.old) (F.state flash.new)
+        (IsSwitched (copy_bodies held.now) live.bank live.end)) }
     ensures time { GoesOn (F.state flash.old) (F.state flash.new) }
     ensures cause { OnlyWhereRose (IsErrOf result SwitchFault.Flash)
         (F.state flash.old).faults (F.state flash.new).faults }

@@ -1,39 +1,17 @@
-use Rattle.std.proofs.Common.{◌≡◌, length, arith, rules, sym, ◌∙◌}
-use Rattle.std.proofs.lemmas.Bool.{false≢true}
-use Rattle.card_journal.proofs.BankLemmas.{reads_none, reads_then}
-use Rattle.card_journal.proofs.OpenLemmas.{none_blank, only_reads, piece_blank, piece_other}
+use Rattle.std.proofs.Common.{◌≡◌, ◌↔◌, ℕ, ◌-◌, Bool, true, false, not, IsTrue, Option, Some, None, is_none, is_some, IfSome, refl, subst, sym}
+use Rattle.flash_pages.specs.Bytes.{IsErased}
+use Rattle.card_journal.proofs.OpenLemmas.{erased_where}
 use Rattle.card_journal.proofs.blank.is_erased.Goals as goal
 
-pub pieces-init : goal.pieces-init
-pieces-init g c =
-    let start = g.F.Flash.state c.args.flash.now in
-    record {
-      behind = omega arith;
-      within = c.requires.order;
-      erased = none_blank start c.args.from;
-      reads = reads_none start (g.met.F.Flash.lawful c.args.flash.now);
-    }
+none_is : (o : Option ℕ) (b : Bool) → is_some o ≡ not b → b ≡ is_none o
+none_is None true is = refl
+none_is None false is = absurd (cc)
+none_is (Some x) true is = absurd (cc)
+none_is (Some x) false is = refl
 
-pub pieces-preserved : goal.pieces-preserved
-pieces-preserved g c =
+pub returns-clause-erased : goal.returns-clause-erased
+returns-clause-erased g c =
     let start = g.F.Flash.state c.args.flash.now in
-    let before = g.F.Flash.state c.pieces.flash in
-    let after = g.F.Flash.state c.read.new.self in
-    let so_far = c.pieces.invariant in
-    let long : length c.read.new.buf ≡ c.min-n.result = search rules in
-    record {
-      behind = omega (arith, so_far.behind);
-      within = omega (arith, so_far.within);
-      erased = piece_blank start before c.args.from c.pieces.at c.min-n.result c.read.new.buf so_far.reads so_far.behind long (search rules) so_far.erased
-          (c.are_erased.ensures.0 c.if-not-are_erased.false);
-      reads = reads_then start before after (g.met.F.Flash.lawful c.read.new.self) so_far.reads (only_reads before after c.read.ensures.reads);
-    }
-
-pub returns-then-not-are_erased-clause-erased : goal.returns-then-not-are_erased-clause-erased
-returns-then-not-are_erased-clause-erased g c =
-    let start = g.F.Flash.state c.args.flash.now in
-    let before = g.F.Flash.state c.pieces.flash in
-    let so_far = c.pieces.invariant in
-    let long : length c.read.new.buf ≡ c.min-n.result = search rules in
-    piece_other start before c.args.from c.pieces.at c.min-n.result c.read.new.buf so_far.reads so_far.behind long (search rules) so_far.erased
-    c.args.to (omega (arith, so_far.within)) (λ each. false≢true (sym c.if-not-are_erased.true ∙ c.are_erased.ensures.1 each))
+    subst (λ (b : Bool). IfSome start.bytes (λ image. IsTrue b ↔ IsErased c.args.from (c.args.to - c.args.from) image))
+    (sym (none_is c.in_ok-first_used.field-0 c.is_none.result c.is_none.ensures))
+    (erased_where start c.args.from c.args.to c.in_ok-first_used.field-0 c.in_ok-first_used.ensures.first)

@@ -1,15 +1,16 @@
-use Rattle.std.proofs.Common.{◌≡◌, ◌+◌, ◌-◌, ℕ, length, Some, None, Ok, IfSome, refl, sym, ap, subst, arith}
-use Rattle.card_journal.proofs.StoreLemmas.{kept_stored, rest_erased, some_first_erased, stored_kept}
+use Rattle.std.proofs.Common.{◌≡◌, ◌+◌, ◌-◌, ℕ, length, Some, None, IfSome, refl, sym, ap, subst, arith}
+use Rattle.card_journal.proofs.StoreLemmas.{clean_erased, kept_of, some_first_erased, stored_of}
 use Rattle.card_journal.specs.Image.{bank_of}
 use Rattle.card_journal.specs.Store.{store_of}
 use Rattle.card_journal.specs.StoreState.{KeepsCard}
-use Rattle.card_journal.specs.Stored.{HoldsWith}
+use Rattle.card_journal.specs.Stored.{EndsClean, HoldsWith}
 use Rattle.flash_pages.specs.Bank.{end_of}
-use Rattle.flash_pages.specs.Bytes.{IsErased}
 use Rattle.flash_pages.specs.Flash.{MayLeaveOnly}
 use Rattle.record_codec.proofs.SizeLemmas.{sizes_of}
+use Rattle.record_codec.specs.Apply.{apply}
 use Rattle.record_codec.specs.IsDurable.{IsDurable}
 use Rattle.record_codec.specs.Spelling.{spelling}
+use Rattle.record_codec.specs.declared.durable.Durable.{Durable}
 use Rattle.record_codec.specs.declared.record.Record.{Record}
 use Rattle.card_journal.proofs.store.BankStore.append.Goals as goal
 
@@ -21,13 +22,15 @@ append_record-requires g c =
     let store = c.args.self.now in
     let usable = c.requires.usable in
     let len : ℕ = length (spelling c.args.entry.now) in
+    let flash = g.F.Flash.state store.flash in
     record {
       bank = usable.bank;
       place = usable.place;
       sizes = sizes_of store.held c.args.entry.now c.requires.takes.fits;
       fits = c.requires.fits;
-      erased = some_first_erased (g.F.Flash.state store.flash) store.end (5 + len) (end_of (bank_of store.live) - store.end) (omega (arith, c.requires.fits))
-          (usable.erased c.requires.repaired);
+      erased = some_first_erased flash store.end (5 + len) (end_of (bank_of store.live) - store.end) (omega (arith, c.requires.fits))
+          (clean_erased flash store.held store.live store.end (g.met.F.Flash.lawful store.flash) usable.bank usable.place
+          (usable.ends c.requires.repaired));
     }
 
 pub returns-in-Ok : goal.returns-in-Ok
@@ -40,23 +43,26 @@ returns-in-Ok g c =
     let next : ℕ = store.end + 5 + length (spelling entry) in
     let appends = c.in-Ok.ensures.appends in
     let here : c.in-Ok.next ≡ next = c.in-Ok.ensures.next in
+    let ends = usable.ends c.requires.repaired in
     let stored = λ (kept : KeepsCard (store_of g.F.Flash.state store)). c.in-Ok.ensures.stored store.held c.requires.takes.fits c.requires.takes.later
-    (stored_kept before store.held store.unrepaired store.live store.end c.requires.repaired kept) in
-    let rest : IfSome after.bytes (IsErased next (end_of (bank_of store.live) - next)) =
-    rest_erased before after store.end (end_of (bank_of store.live)) (spelling entry) (Ok c.in-Ok.next) (g.met.F.Flash.lawful store.flash)
-    c.requires.fits (omega (arith, usable.bank)) (usable.erased c.requires.repaired) appends in
+    (stored_of before store.held store.unrepaired store.live store.end c.requires.repaired ends kept) in
+    let clean : IfSome after.bytes (EndsClean (apply store.held entry) store.live next)
+    = c.in-Ok.ensures.ends store.held c.requires.takes.fits c.requires.takes.later ends in
     record {
       usable = record {
         valid = subst IsDurable (sym c.apply.ensures) c.requires.takes.fits.after;
         bank = usable.bank;
         place = record { from_start = omega (arith, usable.place.from_start, here); to_end = omega (arith, here, c.requires.fits) };
-        erased = λ none. subst (λ (k : ℕ). IfSome after.bytes (IsErased k (end_of (bank_of store.live) - k))) (sym here) rest;
+        ends = λ none. subst (λ (k : ℕ). IfSome after.bytes (EndsClean c.apply.new.self store.live k)) (sym here)
+            (subst (λ (d : Durable). IfSome after.bytes (EndsClean d store.live next)) (sym c.apply.ensures) clean);
       };
       done = (c.apply.ensures, c.requires.repaired);
       refused = tt;
+      live = refl;
+      end = here;
       row = record { done = appends.done; settled = appends.settled; erased = appends.erased; touches = appends.touches };
       throughout = λ kept. (stored kept).throughout;
-      kept = λ kept. kept_stored after _ c.apply.new.self store.unrepaired store.live next c.in-Ok.next c.requires.repaired c.apply.ensures here (stored kept).done;
+      kept = λ kept. kept_of after _ c.apply.new.self store.unrepaired c.requires.repaired c.apply.ensures (stored kept).done.may_leave;
       cause = tt;
     }
 
@@ -69,11 +75,13 @@ returns-in-Err g c =
     let after = g.F.Flash.state c.append_record.new.flash in
     let appends = c.in-Err.ensures.appends in
     let stored = λ (kept : KeepsCard (store_of g.F.Flash.state store)). c.in-Err.ensures.stored store.held c.requires.takes.fits c.requires.takes.later
-    (stored_kept before store.held store.unrepaired store.live store.end c.requires.repaired kept) in
+    (stored_of before store.held store.unrepaired store.live store.end c.requires.repaired (usable.ends c.requires.repaired) kept) in
     record {
-      usable = record { valid = usable.valid; bank = usable.bank; place = usable.place; erased = λ none. absurd (some_none c.args.copy none) };
+      usable = record { valid = usable.valid; bank = usable.bank; place = usable.place; ends = λ none. absurd (some_none c.args.copy none) };
       done = tt;
       refused = (refl, ap (λ (e : Record). Some e) c.requires.copied);
+      live = refl;
+      end = tt;
       row = record { done = tt; settled = tt; erased = appends.erased; touches = appends.touches };
       throughout = λ kept. (stored kept).throughout;
       kept = λ kept. subst (λ (e : Record). MayLeaveOnly after (HoldsWith store.held (Some e))) (sym c.requires.copied) (stored kept).throughout.may_leave;

@@ -1,4 +1,7 @@
-use Rattle.card_journal.proofs.StoreLemmas.{commits_failed, kept_with}
+use Rattle.std.proofs.Common.{refl}
+use Rattle.card_journal.proofs.SwitchLemmas.{row_same}
+use Rattle.card_journal.specs.StoreState.{NeedsSwitch}
+use Rattle.card_journal.proofs.StoreLemmas.{commits_failed}
 use Rattle.card_journal.specs.Store.{store_of}
 use Rattle.card_journal.specs.Stored.{HoldsWith}
 use Rattle.flash_pages.proofs.Throughout.{Throughout-begin}
@@ -9,7 +12,7 @@ returns-in_err-room-clause-atomic g c = λ kept.
     let store = c.args.self.now in
     commits_failed (store_of g.F.Flash.state store) (store_of g.F.Flash.state store) c.args.entry.now
     (Throughout-begin 2433 (g.F.Flash.state store.flash) (HoldsWith store.held store.unrepaired) (g.met.F.Flash.lawful store.flash)
-    (kept_with (g.F.Flash.state store.flash) store.held store.unrepaired store.live store.end kept))
+    kept)
     kept
 
 pub returns-in_err-copy-clause-atomic : goal.returns-in_err-copy-clause-atomic
@@ -17,5 +20,21 @@ returns-in_err-copy-clause-atomic g c = λ kept.
     let store = c.args.self.now in
     commits_failed (store_of g.F.Flash.state store) (store_of g.F.Flash.state store) c.args.entry.now
     (Throughout-begin 2433 (g.F.Flash.state store.flash) (HoldsWith store.held store.unrepaired) (g.met.F.Flash.lawful store.flash)
-    (kept_with (g.F.Flash.state store.flash) store.held store.unrepaired store.live store.end kept))
+    kept)
     kept
+
+pub returns-in_err-room-clause-switch_row : goal.returns-in_err-room-clause-switch_row
+returns-in_err-room-clause-switch_row g c =
+    let store = c.args.self.now in
+    row_same (g.F.Flash.state store.flash) (g.F.Flash.state store.flash) (NeedsSwitch (store_of g.F.Flash.state store) c.args.entry.now) refl
+
+pub returns-in_err-copy-clause-switch_row : goal.returns-in_err-copy-clause-switch_row
+returns-in_err-copy-clause-switch_row g c =
+    let store = c.args.self.now in
+    row_same (g.F.Flash.state store.flash) (g.F.Flash.state store.flash) (NeedsSwitch (store_of g.F.Flash.state store) c.args.entry.now) refl
+
+pub returns-in-Ok-clause-switched : goal.returns-in-Ok-clause-switched
+returns-in-Ok-clause-switched g c = c.in-Ok.ensures.switched
+
+pub returns-in-Ok-clause-next : goal.returns-in-Ok-clause-next
+returns-in-Ok-clause-next g c = c.in-Ok.ensures.next

@@ -1,7 +1,7 @@
 use Rattle.std.proofs.Common.{◌-◌, ◌≤◌, IfSome}
 use Rattle.card_journal.specs.Read.{OnlyReads}
 use Rattle.flash_pages.specs.Bytes.{IsErased}
-use Rattle.card_journal.proofs.blank.is_erased.Given as goal
+use Rattle.card_journal.proofs.blank.first_used.Given as goal
 
 abbrev pub invariant-pieces : goal.invariant-pieces
 invariant-pieces g l = record {
