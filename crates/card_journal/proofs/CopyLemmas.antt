@@ -8,9 +8,10 @@ use Rattle.file_rows.specs.Content.{IsValid}
 use Rattle.file_rows.specs.declared.content.Content.{Content}
 use Rattle.file_rows.proofs.ListLemmas.{any_cases, any_none, each_right}
 use Rattle.plain_lists.specs.EachTwo.{EachTwo}
+use Rattle.port_table.specs.PortOf.{port_of}
 use Rattle.port_table.specs.Ports.{holds}
 use Rattle.port_table.specs.declared.ports.Ports.{Ports}
-use Rattle.card_journal.specs.Copy.{copy_of, port_of, put_each}
+use Rattle.card_journal.specs.Copy.{copy_of, put_each}
 use Rattle.card_journal.specs.Image.{Follow, Leave}
 use Rattle.record_codec.specs.Apply.{apply, fold}
 use Rattle.record_codec.specs.FitsCard.{FitsCard}

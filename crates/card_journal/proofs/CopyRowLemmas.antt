@@ -12,7 +12,7 @@ use Rattle.flash_pages.specs.Rows.{row_of}
 use Rattle.flash_pages.proofs.BlankBehind.{EndsBlank-blank, bank-append, bank-erased}
 use Rattle.flash_pages.proofs.Outcome.{length-bank_bytes}
 use Rattle.flash_pages.proofs.Touched.{at_some, flash_size, from_each, known_before, same_some}
-use Rattle.port_table.specs.Ports.{holds}
+use Rattle.port_table.specs.PortOf.{port_of}
 use Rattle.record_codec.specs.Apply.{apply}
 use Rattle.record_codec.specs.FitsCard.{FitsCard}
 use Rattle.record_codec.specs.IsDurable.{IsDurable}
@@ -23,7 +23,7 @@ use Rattle.record_codec.specs.declared.profile.ProfileHead.{ProfileHead}
 use Rattle.record_codec.specs.declared.record.Record.{Record}
 use Rattle.record_codec.specs.declared.record.Record.TheVariants.{PutCard, PutProfile}
 use Rattle.record_codec.proofs.SizeLemmas.{sizes_of}
-use Rattle.card_journal.specs.Copy.{HoldsCopy, copy_of, port_of, put_each}
+use Rattle.card_journal.specs.Copy.{HoldsCopy, copy_of, put_each}
 use Rattle.card_journal.specs.Image.{AreCodings, Follow, bank_of, switch_row}
 use Rattle.card_journal.specs.Stored.{EndsClean}
 use Rattle.card_journal.proofs.BoundLemmas.{one_row}
@@ -164,21 +164,6 @@ copy_ends held are live end image live_is copy = record {
   codings = codings_of (copy_of held) copy.codings;
   left = copied held are;
 }
-
--- the port of a profile
-pub port_found : (on : List (Option ℕ)) (port profile : ℕ) → ((k : ℕ) → k < port → holds profile (slice_index_or on k None) ≡ false) → port < length on
-    → holds profile (slice_index_or on port None) ≡ true → port_of profile on ≡ Some port
-port_found [] port profile before within here = absurd (omega (arith, within))
-port_found (place ∷ on) zero profile before within here = ap (λ (b : Bool). cond b (Some 0) (option_map suc (port_of profile on))) here
-port_found (place ∷ on) (suc port) profile before within here =
-    ap (λ (b : Bool). cond b (Some 0) (option_map suc (port_of profile on))) (before 0 (omega arith))
-    ∙ ap (option_map suc) (port_found on port profile (λ k below. before (suc k) (omega (arith, below))) (omega (arith, within)) here)
-
-pub port_none : (on : List (Option ℕ)) (profile : ℕ) → ((k : ℕ) → k < length on → holds profile (slice_index_or on k None) ≡ false) → port_of profile on ≡ None
-port_none [] profile each = refl
-port_none (place ∷ on) profile each =
-    ap (λ (b : Bool). cond b (Some 0) (option_map suc (port_of profile on))) (each 0 (omega arith))
-    ∙ ap (option_map suc) (port_none on profile (λ k below. each (suc k) (omega (arith, below))))
 
 -- behind the rows of the copy so far all is erased
 pub copied_erased : (s : FlashState) (held : Durable) (idle place at n : ℕ) → IsFlash card_blocks s → idle < 2 → start_of (bank_of idle) ≤ at

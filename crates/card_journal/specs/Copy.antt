@@ -1,24 +1,17 @@
 -- The records that a switch writes: a copy of the card, without what it was before.
-use Rattle.std.specs.Prelude.{ℕ, suc, ◌-◌, if◌then◌else◌, List, [], ◌∷◌, map, Option, Some}
-use Rattle.std.specs.Prelude.{None, option_map}
+use Rattle.std.specs.Prelude.{ℕ, ◌-◌, List, [], ◌∷◌, map, Option}
 use Rattle.std.specs.List.{AllByRecursion}
 use Rattle.card_journal.specs.Image.{bank_of}
 use Rattle.file_rows.specs.declared.content.Content.{Content}
 use Rattle.flash_pages.specs.Append.{EndsBlank}
 use Rattle.flash_pages.specs.Bank.{bank_bytes, start_of}
-use Rattle.port_table.specs.Ports.{holds}
+use Rattle.port_table.specs.PortOf.{port_of}
 use Rattle.record_codec.specs.CopyRecord.{card_record, profile_record}
 use Rattle.record_codec.specs.Sizes.{HasCoding}
 use Rattle.record_codec.specs.Spelling.{spelling}
 use Rattle.record_codec.specs.declared.durable.Durable.{Durable}
 use Rattle.record_codec.specs.declared.profile.ProfileHead.{ProfileHead}
 use Rattle.record_codec.specs.declared.record.Record.{Record}
-
--- the port on which the profile stands, if it stands on one
-abbrev pub port_of : ℕ → List (Option ℕ) → Option ℕ
-port_of profile [] = None
-port_of profile (place ∷ places) =
-    if holds profile place then Some 0 else option_map suc (port_of profile places)
 
 -- one record a profile, each on its port
 abbrev pub put_each : List (Option ℕ) → List ProfileHead → List Content → List Record

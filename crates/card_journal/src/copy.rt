@@ -2,12 +2,11 @@
 ghost use Rattle.std.specs.Prelude.{◌≡◌, ◌*◌, ◌+◌, ◌<◌, ◌≤◌, Some, suc, length, slice_get, IfOk};
 ghost use Rattle.std.specs.Prelude.{IfSome, OnOk};
 ghost use Rattle.port_io.specs.Faults.{FailsOnlyWhereRose};
-ghost use Rattle.card_journal.specs.Copy.{HoldsCopy, copy_of, port_of};
+ghost use Rattle.card_journal.specs.Copy.{HoldsCopy, copy_of};
 ghost use Rattle.card_journal.specs.Image.{bank_of};
 ghost use Rattle.flash_pages.specs.Bank.{IsPlaceIn, start_of};
 ghost use Rattle.flash_pages.specs.Bytes.{IsErased};
 ghost use Rattle.flash_pages.specs.Flash.{IsSettled, Touches, block_len};
-ghost use Rattle.port_table.specs.Ports.{holds};
 ghost use Rattle.record_codec.specs.CopyRecord.{record_of};
 ghost use Rattle.record_codec.specs.IsDurable.{IsDurable};
 
@@ -18,28 +17,6 @@ use file_rows::Content;
 use flash_pages::{BLOCK_LEN, Flash, append_row};
 use port_io::Failed;
 use record_codec::{CopyRecord, Durable, ProfileHead};
-
-fn holds(place: Option<u16>, profile: u16) -> bool
-    ensures { result ≡ holds profile place }
-{
-    match place {
-        Some(other) => other == profile,
-        None => false,
-    }
-}
-
-// The port on which a profile stands, if it stands on one.
-fn port_of(profile: u16, on: &[Option<u16>]) -> Option<u8>
-    requires { length on.now ≤ 8 }
-    ensures { result ≡ port_of profile on.now }
-{
-    for (port, place) in on.iter().enumerate() {
-        if holds(*place, profile) {
-            return Some(port as u8);
-        }
-    }
-    None
-}
 
 fn head_at(heads: &[ProfileHead], place: usize) -> &ProfileHead
     requires { place < length heads.now }
@@ -64,7 +41,7 @@ fn copied_profile(held: &Durable, place: usize) -> CopyRecord<'_>
     CopyRecord::Profile {
         head,
         content: content_at(held.contents.as_slice(), place),
-        port: port_of(head.number, held.heads.ports.on.as_slice()),
+        port: held.heads.ports.port_of(head.number),
     }
 }
 

@@ -7,7 +7,7 @@ use Rattle.std.proofs.lemmas.Bool.Decides.{nat_tests}
 use Rattle.case_table.specs.CaseRows.{first_value}
 use Rattle.file_templates.specs.declared.template_row.Row.{Row}
 use Rattle.file_templates.specs.declared.table.TheConstants.{TEMPLATE_ROWS, ROWS}
-use Rattle.file_templates.specs.Templates.{TemplateRow, template_rows, is_row_at, row_at, rows_of}
+use Rattle.file_templates.specs.Templates.{TemplateRow, template_rows, is_row_at, row_at, row_count}
 
 abbrev pub key_of : TemplateRow → ℕ
 key_of row = row.template * 256 + row.row.position
@@ -109,5 +109,5 @@ in_table template position key place h k e =
     ∙ found ROWS template_rows 0 template position rows_are are_short h
 
 -- as many keys as rows are the template's
-pub in_keys : (template : ℕ) → count_by (λ key. key / 256 == template) TEMPLATE_ROWS.keys ≡ rows_of template
+pub in_keys : (template : ℕ) → count_by (λ key. key / 256 == template) TEMPLATE_ROWS.keys ≡ row_count template
 in_keys template = ap (count_by (λ key. key / 256 == template)) keys_are ∙ counted template_rows 0 template are_short

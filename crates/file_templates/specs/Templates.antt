@@ -137,5 +137,5 @@ row_at template position = option_map (λ row. row.row)
     (find (is_row_at template position) template_rows)
 
 -- how many files a template has
-abbrev pub rows_of : ℕ → ℕ
-rows_of template = count_by (λ row. row.template == template) template_rows
+abbrev pub row_count : ℕ → ℕ
+row_count template = count_by (λ row. row.template == template) template_rows

@@ -1,7 +1,7 @@
 //! What holds of the templates as a whole.
 ghost use Rattle.std.specs.Prelude.{◌≡◌, ◌+◌, ◌*◌, map, IsTrue};
 ghost use Rattle.case_table.specs.CaseRows.{differ};
-ghost use Rattle.file_templates.specs.Templates.{rows_of, template_rows};
+ghost use Rattle.file_templates.specs.Templates.{row_count, template_rows};
 ghost use Rattle.file_templates.specs.declared.table.TheConstants.{TEMPLATE_ROWS};
 
 /// The table has just the positions of the templates, in their order.
@@ -18,9 +18,9 @@ pub fn one_row_at_each_position()
 /// The templates are 1 (MF), 3 (telecom), 4 (USIM), 5 (optional files of the USIM) and 8 (ISIM),
 /// with 6, 13, 21, 18 and 8 files at the positions from 2 on.
 pub fn templates_have_these_numbers_of_rows()
-    ensures master { rows_of 1 ≡ 6 }
-    ensures telecom { rows_of 3 ≡ 13 }
-    ensures usim { rows_of 4 ≡ 21 }
-    ensures opt_usim { rows_of 5 ≡ 18 }
-    ensures isim { rows_of 8 ≡ 8 }
+    ensures master { row_count 1 ≡ 6 }
+    ensures telecom { row_count 3 ≡ 13 }
+    ensures usim { row_count 4 ≡ 21 }
+    ensures opt_usim { row_count 5 ≡ 18 }
+    ensures isim { row_count 8 ≡ 8 }
 {}

@@ -1,5 +1,5 @@
 ghost use Rattle.std.specs.Prelude.{◌≡◌, ◌==◌, ◌/◌, count_by, slice_get, option_and_then};
-ghost use Rattle.file_templates.specs.Templates.{row_at, rows_of};
+ghost use Rattle.file_templates.specs.Templates.{row_at, row_count};
 
 use crate::macros::{list_of_rows, places_by_key, template_rows};
 use crate::template_row::Row;
@@ -42,7 +42,7 @@ fn keys_of(keys: &[u16], template: u8) -> usize
 /// How many files a template has: 0 where there is no such template. Their positions are those
 /// from 2 on.
 pub fn rows(template: u8) -> u8
-    ensures { result ≡ rows_of template }
+    ensures { result ≡ row_count template }
 {
     keys_of(&TEMPLATE_ROWS.keys, template) as u8
 }

@@ -25,8 +25,8 @@ abbrev pub count_body : ℕ → List ℕ
 count_body ports = 0x80 ∷ 0x01 ∷ ports ∷ []
 
 -- what P1 and P2 ask for: 00 00 the number of ports, 01 and a port of the card its reset
-abbrev pub asked : Apdu → ℕ → Option Lsi
-asked c ports =
+abbrev pub lsi_asked : Apdu → ℕ → Option Lsi
+lsi_asked c ports =
     if (c.p1 == 0x00) && (c.p2 == 0x00) then Some Count
     else (if (c.p1 == 0x01) && nat_lt c.p2 ports then Some (Reset c.p2)
     else None)
@@ -51,4 +51,5 @@ asked_in_form c ports (Some lsi) = done_unless (form_refusal_of c ports lsi) lsi
 -- resets a port, or it is refused: for its class, for P1 and P2, for a body or a missing Le, for a
 -- wrong Le.
 abbrev pub lsi_of : Apdu → ℕ → Result Lsi Sw
-lsi_of c ports = if has_class_80 c then asked_in_form c ports (asked c ports) else Err WRONG_CLASS
+lsi_of c ports =
+    if has_class_80 c then asked_in_form c ports (lsi_asked c ports) else Err WRONG_CLASS

@@ -1,7 +1,7 @@
 //! MANAGE LSI: the number of a card's ports, and the reset of one.
 ghost use Rattle.std.specs.Prelude.{◌≡◌, None, Some, MatchResult};
 ghost use Rattle.apdu_codec.specs.Command.{apdu_of};
-ghost use Rattle.lsi_refresh.specs.Lsi.{asked, count_body, form_refusal_of, has_class_80, lsi_of};
+ghost use Rattle.lsi_refresh.specs.Lsi.{lsi_asked, count_body, form_refusal_of, has_class_80, lsi_of};
 
 use apdu_codec::{Class, Command, Sw};
 use uicc_channels::{require, require_le};
@@ -29,8 +29,8 @@ fn has_class_80(command: &Command) -> bool
 }
 
 // What P1 and P2 ask for.
-fn asked(command: &Command, ports: u8) -> Option<Lsi>
-    ensures { result ≡ asked (apdu_of command.now) ports }
+fn lsi_asked(command: &Command, ports: u8) -> Option<Lsi>
+    ensures { result ≡ lsi_asked (apdu_of command.now) ports }
 {
     match (command.p1, command.p2) {
         (0x00, 0x00) => Some(Lsi::Count),
@@ -65,7 +65,7 @@ pub fn read_lsi(command: &Command, ports: u8) -> Result<Lsi, Sw>
     ensures { result ≡ lsi_of (apdu_of command.now) ports }
 {
     require(has_class_80(command), Sw::WRONG_CLASS)?;
-    let lsi = asked(command, ports).ok_or(Sw::WRONG_P1_P2)?;
+    let lsi = lsi_asked(command, ports).ok_or(Sw::WRONG_P1_P2)?;
     require_lengths(command, ports, lsi)?;
     Ok(lsi)
 }

@@ -6,7 +6,7 @@ use Rattle.std.specs.Option.{ok_or}
 use Rattle.std.proofs.lemmas.List.Quantifiers.{position-Some}
 use Rattle.std.proofs.lemmas.Option.{slice_get-get_or, get_or_from_slice_get}
 use Rattle.std.proofs.lemmas.Bool.{true≢false}
-use Rattle.port_table.specs.Target.{IsFree, IsLowestFree, is_free_place, lowest_free}
+use Rattle.port_table.specs.Target.{HasNoProfile, IsLowestFree, is_free_place, lowest_free}
 use Rattle.port_table.specs.declared.ports.Ports.{Ports}
 use Rattle.port_table.specs.declared.target.TargetFault.{TargetFault}
 use Rattle.port_table.specs.declared.target.TargetFault.TheVariants.{NoneFree}
@@ -73,20 +73,20 @@ pub lowest : (ports : Ports) (port : ℕ) → ok_or {E = TargetFault} (lowest_fr
 lowest ports port is = lowest_from ports (position is_free_place (drop 1 ports.on)) refl port is
 
 all_taken : (ports : Ports) (found : Option ℕ) → position is_free_place (drop 1 ports.on) ≡ found
-    → ok_or {E = TargetFault} (option_map suc found) NoneFree ≡ Err NoneFree → (port : ℕ) → 1 ≤ port → IsFree ports port → ⊥
+    → ok_or {E = TargetFault} (option_map suc found) NoneFree ≡ Err NoneFree → (port : ℕ) → 1 ≤ port → HasNoProfile ports port → ⊥
 all_taken ports (Some k) e is port from free = absurd cc
 all_taken ports None e is zero from free = absurd (omega (arith, from))
 all_taken ports None e is (suc k) from free =
     none_passes is_free_place (drop 1 ports.on) k None e (within_later ports.on k free) (is_free_then ports.on k free)
 
 none_then : (ports : Ports) (found : Option ℕ) → position is_free_place (drop 1 ports.on) ≡ found
-    → ((port : ℕ) → 1 ≤ port → IsFree ports port → ⊥) → ok_or {E = TargetFault} (option_map suc found) NoneFree ≡ Err NoneFree
+    → ((port : ℕ) → 1 ≤ port → HasNoProfile ports port → ⊥) → ok_or {E = TargetFault} (option_map suc found) NoneFree ≡ Err NoneFree
 none_then ports None e taken = refl
 none_then ports (Some k) e taken =
     let at = position-Some is_free_place (drop 1 ports.on) k None e in
     absurd (taken (suc k) (omega arith) (free_at ports.on k at.0 at.1))
 
-pub none_free : (ports : Ports) → (ok_or {E = TargetFault} (lowest_free ports.on) NoneFree ≡ Err NoneFree) ↔ ((port : ℕ) → 1 ≤ port → IsFree ports port → ⊥)
+pub none_free : (ports : Ports) → (ok_or {E = TargetFault} (lowest_free ports.on) NoneFree ≡ Err NoneFree) ↔ ((port : ℕ) → 1 ≤ port → HasNoProfile ports port → ⊥)
 none_free ports = (
   λ is port from free. all_taken ports (position is_free_place (drop 1 ports.on)) refl is port from free,
   λ taken. none_then ports (position is_free_place (drop 1 ports.on)) refl taken,

@@ -14,8 +14,8 @@ fault_number NotUsable = 7
 fault_number NoneFree = 9
 
 -- no profile stands on the port
-abbrev pub IsFree : Ports → ℕ → Type 0
-IsFree ports port = slice_get ports.on port ≡ Some None
+abbrev pub HasNoProfile : Ports → ℕ → Type 0
+HasNoProfile ports port = slice_get ports.on port ≡ Some None
 
 abbrev pub is_free_place : Option ℕ → Bool
 is_free_place place = not (is_some place)
@@ -36,11 +36,11 @@ target_in A1 ports came given = usable ports.count given
 target_in A2 ports came given = ok_or (lowest_free ports.on) NoneFree
 target_in B ports came given = Ok came
 
-abbrev pub target_of : Ports → ℕ → Option ℕ → Result ℕ TargetFault
-target_of ports came given = target_in ports.mode ports came given
+abbrev pub target_port : Ports → ℕ → Option ℕ → Result ℕ TargetFault
+target_port ports came given = target_in ports.mode ports came given
 
 -- the lowest of the free ports from 1
 pub record IsLowestFree (ports : Ports) (port : ℕ) : Type 0 where
-  pub free : IsFree ports port
+  pub free : HasNoProfile ports port
   pub from_1 : 1 ≤ port
-  pub lowest : (other : ℕ) → 1 ≤ other → other < port → ¬ IsFree ports other
+  pub lowest : (other : ℕ) → 1 ≤ other → other < port → ¬ HasNoProfile ports other

@@ -1,7 +1,7 @@
 ghost use Rattle.std.specs.Prelude.{◌≡◌, ◌≢◌, ◌<◌, ◌≤◌, ◌↔◌, ℕ, length, Option, Some, None, Ok, Err};
 ghost use Rattle.port_table.specs.Ports.{HasProfiles, KeepsPortRule, MayBind, StandsNowhere, StandsOn, bound, unbound};
 ghost use Rattle.port_table.specs.PortOf.{port_of};
-ghost use Rattle.port_table.specs.Target.{IsFree, IsLowestFree, target_of};
+ghost use Rattle.port_table.specs.Target.{HasNoProfile, IsLowestFree, target_port};
 ghost use Rattle.port_table.specs.declared.port_mode.PortMode.TheVariants.{A1, A2, B};
 ghost use Rattle.port_table.specs.declared.target.TargetFault.TheVariants.{NoneFree, NotUsable};
 ghost use Rattle.port_table.specs.declared.ports.Ports.{Ports};
@@ -34,19 +34,19 @@ pub fn binding_is_local()
 pub fn targets_are_ports_of_profiles()
     ensures a_port { (ports : Ports) (came port : ℕ) (given : Option ℕ)
         → length ports.on ≡ ports.count → came < ports.count
-        → target_of ports came given ≡ Ok port
+        → target_port ports came given ≡ Ok port
         → (port < ports.count) × HasProfiles ports.mode port }
     ensures named { (ports : Ports) (came port : ℕ) (given : Option ℕ) → ports.mode ≡ A1
-        → target_of ports came given ≡ Ok port → given ≡ Some port }
+        → target_port ports came given ≡ Ok port → given ≡ Some port }
     ensures not_usable { (ports : Ports) (came port : ℕ) → ports.mode ≡ A1
-        → (target_of ports came (Some port) ≡ Err NotUsable) ↔ (1 ≤ port → ports.count ≤ port) }
+        → (target_port ports came (Some port) ≡ Err NotUsable) ↔ (1 ≤ port → ports.count ≤ port) }
     ensures lowest { (ports : Ports) (came port : ℕ) (given : Option ℕ) → ports.mode ≡ A2
-        → target_of ports came given ≡ Ok port → IsLowestFree ports port }
+        → target_port ports came given ≡ Ok port → IsLowestFree ports port }
     ensures none_free { (ports : Ports) (came : ℕ) (given : Option ℕ) → ports.mode ≡ A2
-        → (target_of ports came given ≡ Err NoneFree)
-        ↔ ((port : ℕ) → 1 ≤ port → ¬ IsFree ports port) }
+        → (target_port ports came given ≡ Err NoneFree)
+        ↔ ((port : ℕ) → 1 ≤ port → ¬ HasNoProfile ports port) }
     ensures own { (ports : Ports) (came : ℕ) (given : Option ℕ) → ports.mode ≡ B
-        → target_of ports came given ≡ Ok came }
+        → target_port ports came given ≡ Ok came }
 {}
 
 /// The port of a profile is where it stands, and there is none exactly where it stands nowhere.

@@ -1,6 +1,6 @@
 //! The port on which a profile is enabled.
 ghost use Rattle.std.specs.Prelude.{◌≡◌, ◌≤◌, ◌<◌, IfSome, length, position};
-ghost use Rattle.port_table.specs.Target.{fault_number, is_free_place, lowest_free, target_of, usable};
+ghost use Rattle.port_table.specs.Target.{fault_number, is_free_place, lowest_free, target_port, usable};
 
 use crate::{PortMode, Ports};
 use thiserror::Error;
@@ -71,7 +71,7 @@ impl Ports {
         requires places { length self.now.on ≡ self.now.count }
         requires came { came < self.now.count }
         requires few { self.now.count ≤ 8 }
-        ensures { result ≡ target_of self.now came given }
+        ensures { result ≡ target_port self.now came given }
     {
         match self.mode {
             PortMode::A1 => usable(self.count, given),

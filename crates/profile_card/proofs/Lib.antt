@@ -10,3 +10,4 @@ pub mod StepLemmas
 pub mod TableLemmas
 pub mod StayLemmas
 pub mod RefusedLemmas
+pub mod ReachLemmas

@@ -7,3 +7,4 @@ pub mod Sample
 pub mod Step
 pub mod Tables
 pub mod Refused
+pub mod Reach

@@ -1,4 +1,4 @@
-ghost use Rattle.std.specs.Prelude.{◌≡◌, ◌≢◌, ℕ, ◌<◌, ◌^◌, Bool, true, false, List, [], ◌∷◌, Option, Some};
+ghost use Rattle.std.specs.Prelude.{◌≡◌, ◌≢◌, ℕ, ◌<◌, ◌≤◌, ◌^◌, Bool, true, false, List, [], ◌∷◌, Option, Some};
 ghost use Rattle.apdu_codec.specs.Command.{Apdu};
 ghost use Rattle.apdu_codec.specs.Sw.{bytes_waiting, tries_left, wrong_le};
 ghost use Rattle.apdu_codec.specs.declared.answers.Answer.{Answer};
@@ -6,11 +6,14 @@ ghost use Rattle.case_table.specs.CaseRows.{value_of};
 ghost use Rattle.uicc_channels.specs.Accepted.{IsDoneOrRefused, is_accepted};
 ghost use Rattle.uicc_channels.specs.ChannelLaws.{LeavesOthers};
 ghost use Rattle.uicc_channels.specs.CommandOutcome.{refused};
+ghost use Rattle.file_rows.specs.Content.{file_at, use_of};
 ghost use Rattle.file_rows.specs.PinRow.{is_verified};
-ghost use Rattle.profile_card.specs.Card.{Card, IsSound};
+ghost use Rattle.file_rows.specs.declared.row.FileRow.{FileRow};
+ghost use Rattle.profile_card.specs.Card.{Card, IsSound, card_after};
 ghost use Rattle.profile_card.specs.Commands.{decision};
 ghost use Rattle.profile_card.specs.PinCommands.{is_pin_instruction};
 ghost use Rattle.profile_card.specs.Own.{is_common};
+ghost use Rattle.profile_card.specs.Reach.{WorksOn};
 ghost use Rattle.profile_card.specs.Refused.{ChangesTriesAlone};
 ghost use Rattle.profile_card.specs.Step.{Event, Outcome, Runs, Steps};
 ghost use Rattle.profile_card.specs.Step.Event.{Bound, Power, Reset};
@@ -36,11 +39,14 @@ pub fn commands_have_one_run()
 {}
 
 /// Each event leaves a card that holds what a card may hold, with a session that names what is
-/// there.
+/// there. What its files take never exceeds the quota of 65,536 bytes.
 pub fn cards_stay_sound()
-    ensures { (card : Card) (event : Event) (outcome : Outcome) → IsSound card
+    ensures sound { (card : Card) (event : Event) (outcome : Outcome) → IsSound card
         → Steps card event outcome
         → IsSound outcome.card }
+    ensures quota { (card : Card) (event : Event) (outcome : Outcome) → IsSound card
+        → Steps card event outcome
+        → use_of outcome.card.content.rows ≤ 65536 }
 {}
 
 /// A command that isn't accepted changes nothing but the tries left of a PIN and of its PUK, and
@@ -58,6 +64,15 @@ pub fn refused_commands_change_nothing()
 pub fn commands_stay_on_their_channel()
     ensures { (card : Card) (c : Apdu) → c.ins ≢ 0x70 → c.ins ≢ 0xD4
         → LeavesOthers card.session c.channel (decision card c).session }
+{}
+
+/// No command changes a file that is there but the one that it works on: the current EF of its
+/// channel, a file that it names there by SFI or identifier, and with DELETE FILE what is below it.
+pub fn commands_change_the_file_they_work_on()
+    ensures { (card : Card) (c : Apdu) (path : List ℕ) (row : FileRow) → IsSound card
+        → file_at path card.content.rows ≡ Some row
+        → ¬ WorksOn card c path
+        → file_at path (card_after card (decision card c)).content.rows ≡ Some row }
 {}
 
 /// What is verified ends with the session: after a reset of its port, a power cycle and a new port

@@ -9,7 +9,7 @@ use Rattle.file_rows.specs.declared.head.Life.{Life}
 use Rattle.notify_list.specs.declared.note.Operation.{Operation}
 use Rattle.port_table.specs.declared.port_mode.PortMode.{PortMode}
 use Rattle.record_codec.specs.Fields.{flag, flag_byte}
-use Rattle.record_codec.specs.Reading.{Form, Reader, change_at, change_of, file_read, file_head_at, flag_of, form_at, head_from, kind_of, life_read, made_at, mode_of, note_at, one_at, operation_of, pin_read, profile_head_at, puk_at, record_read, record_of, row_from, rule_read, target_at}
+use Rattle.record_codec.specs.Reading.{Form, Reader, change_at, change_of, file_read, file_head_at, flag_of, form_at, head_from, kind_of, life_read, made_at, mode_of, note_at, one_at, operation_of, pin_read, profile_head_at, puk_at, record_read, record_tagged, row_from, rule_read, target_at}
 use Rattle.record_codec.specs.Sizes.{Codes, HasCoding, IsChange, HasFileSizes, IsFileHead, IsForm, IsNote, HasPinSizes, IsProfileHead, IsPuk, IsRule, IsTarget}
 use Rattle.record_codec.specs.Spelling.{change, file, file_head, form, kind_byte, life, coded_life, mode_byte, note, operation_byte, pin, profile_head, puk, rule, spelling, target}
 use Rattle.record_codec.specs.Returns.{Fails}
@@ -156,33 +156,33 @@ change_takes (tag ∷ bytes) its rest is e = change_of_takes tag bytes its rest 
 change_taken : Taken change IsChange change_at
 change_taken = record { takes = change_takes }
 
-record_of_takes : (tag : ℕ) (bytes : List ℕ) (its : Record) (rest : List ℕ) → IsBytes (tag ∷ bytes) → record_of tag bytes ≡ Some (its, rest)
+record_tagged_takes : (tag : ℕ) (bytes : List ℕ) (its : Record) (rest : List ℕ) → IsBytes (tag ∷ bytes) → record_tagged tag bytes ≡ Some (its, rest)
     → Takes (tag ∷ bytes) (spelling its) rest × HasCoding its
-record_of_takes zero bytes its rest is e = absurd cc
-record_of_takes (suc zero) bytes its rest is e =
+record_tagged_takes zero bytes its rest is e = absurd cc
+record_tagged_takes (suc zero) bytes its rest is e =
     tagged (both_taken (one_taken mode_of mode_byte mode_forth) (both_taken byte_taken (both_taken (plain_taken 16) (both_taken number4_taken
     (both_taken number8_taken (list_taken note_taken 65535)))))) 1
     (λ x. records.PutCard x.0 x.1.0 x.1.1.0 x.1.1.1.0 x.1.1.1.1.0 x.1.1.1.1.1) spelling HasCoding (λ x. refl) (λ x h. h) bytes its rest is e
-record_of_takes (suc (suc zero)) bytes its rest is e =
+record_tagged_takes (suc (suc zero)) bytes its rest is e =
     tagged (both_taken flag_taken (both_taken profile_head_taken (both_taken (option_taken byte_taken) (both_taken (list_taken file_taken 65535) (list_taken pin_taken 65535))))) 2
     (λ x. records.PutProfile x.0 (record { head = x.1.0; content = record { rows = x.1.1.1.0; pins = x.1.1.1.1 } }) x.1.1.0) spelling HasCoding (λ x. refl) (λ x h. h) bytes its rest is e
-record_of_takes (suc (suc (suc zero))) bytes its rest is e =
+record_tagged_takes (suc (suc (suc zero))) bytes its rest is e =
     tagged (both_taken number2_taken change_taken) 3 (λ x. records.Content x.0 x.1) spelling HasCoding (λ x. refl) (λ x h. h) bytes its rest is e
-record_of_takes (suc (suc (suc (suc zero)))) bytes its rest is e =
+record_tagged_takes (suc (suc (suc (suc zero)))) bytes its rest is e =
     tagged (both_taken number2_taken (both_taken byte_taken (option_taken number2_taken))) 4 (λ x. records.Bind x.0 x.1.0 x.1.1) spelling HasCoding (λ x. refl) (λ x h. h) bytes its rest is e
-record_of_takes (suc (suc (suc (suc (suc zero))))) bytes its rest is e = tagged number2_taken 5 records.Unbind spelling HasCoding (λ x. refl) (λ x h. h) bytes its rest is e
-record_of_takes (suc (suc (suc (suc (suc (suc zero)))))) bytes its rest is e =
+record_tagged_takes (suc (suc (suc (suc (suc zero))))) bytes its rest is e = tagged number2_taken 5 records.Unbind spelling HasCoding (λ x. refl) (λ x h. h) bytes its rest is e
+record_tagged_takes (suc (suc (suc (suc (suc (suc zero)))))) bytes its rest is e =
     tagged (list_taken number2_taken 16) 6 records.Gone spelling HasCoding (λ x. refl) (λ x h. h) bytes its rest is e
-record_of_takes (suc (suc (suc (suc (suc (suc (suc zero))))))) bytes its rest is e =
+record_tagged_takes (suc (suc (suc (suc (suc (suc (suc zero))))))) bytes its rest is e =
     tagged (both_taken number2_taken (string_taken 64)) 7 (λ x. records.Name x.0 x.1) spelling HasCoding (λ x. refl) (λ x h. h) bytes its rest is e
-record_of_takes (suc (suc (suc (suc (suc (suc (suc (suc zero)))))))) bytes its rest is e =
+record_tagged_takes (suc (suc (suc (suc (suc (suc (suc (suc zero)))))))) bytes its rest is e =
     tagged number4_taken 8 records.NoteGone spelling HasCoding (λ x. refl) (λ x h. h) bytes its rest is e
-record_of_takes (suc (suc (suc (suc (suc (suc (suc (suc (suc n))))))))) bytes its rest is e = absurd cc
+record_tagged_takes (suc (suc (suc (suc (suc (suc (suc (suc (suc n))))))))) bytes its rest is e = absurd cc
 
 record_takes : (bytes : List ℕ) (its : Record) (rest : List ℕ) → IsBytes bytes → record_read bytes ≡ Some (its, rest) → Takes bytes (spelling its) rest × HasCoding its
 unfolding record_read
 record_takes [] its rest is e = absurd cc
-record_takes (tag ∷ bytes) its rest is e = record_of_takes tag bytes its rest is e
+record_takes (tag ∷ bytes) its rest is e = record_tagged_takes tag bytes its rest is e
 
 -- bytes that are read whole are the coding of what is read
 pub whole_takes : (bytes : List ℕ) (its : Record) → IsBytes bytes → record_read bytes ≡ Some (its, []) → Codes bytes its

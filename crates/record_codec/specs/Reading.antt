@@ -215,31 +215,31 @@ profile_head_at bytes = made_at (λ x. record {
     (both_at (number_at w16) (both_at (plain_at 10) (both_at (string_at 32) (both_at (string_at 64)
     (both_at (string_at 64) (both_at byte_at (both_at byte_at (list_at 8 target_at)))))))) bytes
 
-abbrev pub record_of : ℕ → Reader Record
-record_of zero bytes = None
-record_of (suc zero) bytes = made_at
+abbrev pub record_tagged : ℕ → Reader Record
+record_tagged zero bytes = None
+record_tagged (suc zero) bytes = made_at
     (λ x. records.PutCard x.0 x.1.0 x.1.1.0 x.1.1.1.0 x.1.1.1.1.0 x.1.1.1.1.1)
     (both_at (one_at mode_of) (both_at byte_at (both_at (plain_at 16) (both_at (number_at w32)
     (both_at (number_at w64) (list_at 65535 note_at)))))) bytes
-record_of (suc (suc zero)) bytes = made_at
+record_tagged (suc (suc zero)) bytes = made_at
     (λ x. records.PutProfile x.0 (record {
       head = x.1.0;
       content = record { rows = x.1.1.1.0; pins = x.1.1.1.1 };
     }) x.1.1.0)
     (both_at (one_at flag_of) (both_at profile_head_at (both_at (option_at byte_at)
     (both_at (list_at 65535 file_read) (list_at 65535 pin_read))))) bytes
-record_of (suc (suc (suc zero))) bytes =
+record_tagged (suc (suc (suc zero))) bytes =
     made_at (λ x. records.Content x.0 x.1) (both_at (number_at w16) change_at) bytes
-record_of (suc (suc (suc (suc zero)))) bytes = made_at (λ x. records.Bind x.0 x.1.0 x.1.1)
+record_tagged (suc (suc (suc (suc zero)))) bytes = made_at (λ x. records.Bind x.0 x.1.0 x.1.1)
     (both_at (number_at w16) (both_at byte_at (option_at (number_at w16)))) bytes
-record_of (suc (suc (suc (suc (suc zero))))) bytes = made_at records.Unbind (number_at w16) bytes
-record_of (suc (suc (suc (suc (suc (suc zero)))))) bytes =
+record_tagged (suc (suc (suc (suc (suc zero))))) bytes = made_at records.Unbind (number_at w16) bytes
+record_tagged (suc (suc (suc (suc (suc (suc zero)))))) bytes =
     made_at records.Gone (list_at 16 (number_at w16)) bytes
-record_of (suc (suc (suc (suc (suc (suc (suc zero))))))) bytes =
+record_tagged (suc (suc (suc (suc (suc (suc (suc zero))))))) bytes =
     made_at (λ x. records.Name x.0 x.1) (both_at (number_at w16) (string_at 64)) bytes
-record_of (suc (suc (suc (suc (suc (suc (suc (suc zero)))))))) bytes =
+record_tagged (suc (suc (suc (suc (suc (suc (suc (suc zero)))))))) bytes =
     made_at records.NoteGone (number_at w32) bytes
-record_of (suc (suc (suc (suc (suc (suc (suc (suc (suc b))))))))) bytes = None
+record_tagged (suc (suc (suc (suc (suc (suc (suc (suc (suc b))))))))) bytes = None
 
 unfoldable pub record_read : Reader Record
-record_read bytes = byte_at bytes >>= λ b. record_of b.0 b.1
+record_read bytes = byte_at bytes >>= λ b. record_tagged b.0 b.1

@@ -2,7 +2,7 @@
 ghost use Rattle.std.specs.Prelude.{◌≡◌, ◌≤◌, ◌⊎◌, [], Some, IfOk, IsErrOf};
 ghost use Rattle.std.specs.Int.{w16};
 ghost use Rattle.record_codec.specs.Returns.{Returns};
-ghost use Rattle.record_codec.specs.Reading.{byte_at, file_read, items_at, list_at, mode_of, note_at, number_at, one_at, operation_of, option_at, pin_read, plain_at, profile_head_at, record_read, record_of, target_at};
+ghost use Rattle.record_codec.specs.Reading.{byte_at, file_read, items_at, list_at, mode_of, note_at, number_at, one_at, operation_of, option_at, pin_read, plain_at, profile_head_at, record_read, record_tagged, target_at};
 ghost use Rattle.record_codec.specs.Sizes.{Codes};
 ghost use Rattle.record_codec.specs.declared.record.Record.{Record};
 
@@ -244,7 +244,7 @@ fn profile_head_of(bytes: &[u8]) -> Result<(ProfileHead, &[u8]), RecordFault>
 }
 
 fn put_card_of(alloc: Global, bytes: &[u8]) -> Result<(Record, &[u8]), RecordFault>
-    ensures { Returns (λ x. (x.0, x.1.now)) result (record_of 1 bytes.now) }
+    ensures { Returns (λ x. (x.0, x.1.now)) result (record_tagged 1 bytes.now) }
 {
     let (mode, rest) = mode_of(bytes)?;
     let (ports, rest) = byte_of(rest)?;
@@ -264,7 +264,7 @@ fn put_card_of(alloc: Global, bytes: &[u8]) -> Result<(Record, &[u8]), RecordFau
 }
 
 fn put_profile_of(alloc: Global, bytes: &[u8]) -> Result<(Record, &[u8]), RecordFault>
-    ensures { Returns (λ x. (x.0, x.1.now)) result (record_of 2 bytes.now) }
+    ensures { Returns (λ x. (x.0, x.1.now)) result (record_tagged 2 bytes.now) }
 {
     let (installation, rest) = flag_of(bytes)?;
     let (head, rest) = profile_head_of(rest)?;
@@ -282,7 +282,7 @@ fn put_profile_of(alloc: Global, bytes: &[u8]) -> Result<(Record, &[u8]), Record
 }
 
 fn content_of(bytes: &[u8]) -> Result<(Record, &[u8]), RecordFault>
-    ensures { Returns (λ x. (x.0, x.1.now)) result (record_of 3 bytes.now) }
+    ensures { Returns (λ x. (x.0, x.1.now)) result (record_tagged 3 bytes.now) }
 {
     let (profile, rest) = number2_of(bytes)?;
     let (change, rest) = change_of(rest)?;
@@ -290,7 +290,7 @@ fn content_of(bytes: &[u8]) -> Result<(Record, &[u8]), RecordFault>
 }
 
 fn bind_of(bytes: &[u8]) -> Result<(Record, &[u8]), RecordFault>
-    ensures { Returns (λ x. (x.0, x.1.now)) result (record_of 4 bytes.now) }
+    ensures { Returns (λ x. (x.0, x.1.now)) result (record_tagged 4 bytes.now) }
 {
     let (profile, rest) = number2_of(bytes)?;
     let (port, rest) = byte_of(rest)?;
@@ -304,21 +304,21 @@ fn bind_of(bytes: &[u8]) -> Result<(Record, &[u8]), RecordFault>
 }
 
 fn unbind_of(bytes: &[u8]) -> Result<(Record, &[u8]), RecordFault>
-    ensures { Returns (λ x. (x.0, x.1.now)) result (record_of 5 bytes.now) }
+    ensures { Returns (λ x. (x.0, x.1.now)) result (record_tagged 5 bytes.now) }
 {
     let (profile, rest) = number2_of(bytes)?;
     Ok((Record::Unbind { profile }, rest))
 }
 
 fn gone_of(bytes: &[u8]) -> Result<(Record, &[u8]), RecordFault>
-    ensures { Returns (λ x. (x.0, x.1.now)) result (record_of 6 bytes.now) }
+    ensures { Returns (λ x. (x.0, x.1.now)) result (record_tagged 6 bytes.now) }
 {
     let (profiles, rest) = number_list_of(bytes)?;
     Ok((Record::Gone { profiles }, rest))
 }
 
 fn name_of(bytes: &[u8]) -> Result<(Record, &[u8]), RecordFault>
-    ensures { Returns (λ x. (x.0, x.1.now)) result (record_of 7 bytes.now) }
+    ensures { Returns (λ x. (x.0, x.1.now)) result (record_tagged 7 bytes.now) }
 {
     let (profile, rest) = number2_of(bytes)?;
     let (nickname, rest) = text_of(rest)?;
@@ -326,7 +326,7 @@ fn name_of(bytes: &[u8]) -> Result<(Record, &[u8]), RecordFault>
 }
 
 fn note_gone_of(bytes: &[u8]) -> Result<(Record, &[u8]), RecordFault>
-    ensures { Returns (λ x. (x.0, x.1.now)) result (record_of 8 bytes.now) }
+    ensures { Returns (λ x. (x.0, x.1.now)) result (record_tagged 8 bytes.now) }
 {
     let (number, rest) = number4_of(bytes)?;
     Ok((Record::NoteGone { number }, rest))

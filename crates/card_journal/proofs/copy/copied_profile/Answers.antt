@@ -1,7 +1,7 @@
 use Rattle.std.proofs.Common.{◌≡◌, ℕ, List, Option, Some, slice_get, sym, ◌∙◌, ap, subst}
 use Rattle.card_journal.proofs.CopyRowLemmas.{copy_at}
-use Rattle.card_journal.specs.Copy.{port_of}
 use Rattle.file_rows.specs.declared.content.Content.{Content}
+use Rattle.port_table.specs.PortOf.{port_of}
 use Rattle.record_codec.specs.CopyRecord.{profile_record}
 use Rattle.record_codec.specs.declared.profile.ProfileHead.{ProfileHead}
 use Rattle.card_journal.proofs.copy.copied_profile.Goals as goal
@@ -14,6 +14,6 @@ returns c =
     let heads = subst (λ (l : List ProfileHead). slice_get l c.args.place ≡ Some head) c.as_slice.ensures.value c.head_at-head.ensures in
     let contents = subst (λ (l : List Content). slice_get l c.args.place ≡ Some content) c.as_slice-2.ensures c.content_at.ensures in
     let port : port_of head.number held.heads.ports.on ≡ c.port_of.result
-    = sym (c.port_of.ensures ∙ ap (port_of head.number) c.as_slice-3.ensures.value) in
+    = sym c.port_of.ensures in
     copy_at held.heads.ports.on held.heads.profiles held.contents c.args.place head content heads contents
     ∙ ap (λ (p : Option ℕ). Some (profile_record head content p)) port

@@ -1,0 +1,14 @@
+pub mod DeleteProfile
+pub mod DisableProfile
+pub mod EnableProfile
+pub mod Fields
+pub mod GetEid
+pub mod ListNotification
+pub mod MemoryReset
+pub mod NotificationSent
+pub mod ProfilesInfo
+pub mod Request
+pub mod Search
+pub mod SetNickname
+pub mod Values
+pub mod Who
