@@ -8,6 +8,13 @@ pub mod EraseLemmas
 pub mod ImageLemmas
 pub mod MakeLemmas
 pub mod OpenLemmas
+pub mod PoolApplyLemmas
+pub mod PoolChangeLemmas
+pub mod PoolCompactLemmas
+pub mod PoolCopyLemmas
+pub mod PoolFileLemmas
+pub mod PoolLemmas
+pub mod PoolSizeLemmas
 pub mod ReadLemmas
 pub mod StoreLemmas
 pub mod SwitchLemmas

@@ -8,6 +8,7 @@ pub mod MakeFault
 pub mod Next
 pub mod NotOpened
 pub mod OpenFault
+pub mod Pool
 pub mod Read
 pub mod RecordBody
 pub mod RecordSizes

@@ -18,6 +18,7 @@ mod make_fault;
 mod next;
 mod open;
 mod open_fault;
+mod pool;
 mod reading;
 mod row;
 mod store;
@@ -33,6 +34,7 @@ pub use laws::{
 };
 pub use make_fault::MakeFault;
 pub use open_fault::OpenFault;
+pub use pool::PooledContent;
 pub use reading::{Found, read_bank};
 pub use store::BankStore;
 

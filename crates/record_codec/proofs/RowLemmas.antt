@@ -49,7 +49,7 @@ row_there path (suc place) (row ∷ rows) differ at =
     rw (same_path-other row.head.path path (later_other path row.head place rows differ.0 at)) (row_there path place rows differ.1 at)
 
 -- without a file of the path nothing is changed
-none_at : (path : List ℕ) (change : FileRow → FileRow) (rows : List FileRow) → AllByRecursion (λ head. head.path ≢ path) (heads_of rows) → with_file path change rows ≡ rows
+pub none_at : (path : List ℕ) (change : FileRow → FileRow) (rows : List FileRow) → AllByRecursion (λ head. head.path ≢ path) (heads_of rows) → with_file path change rows ≡ rows
 none_at path change [] each = refl
 none_at path change (row ∷ rows) each =
     rw (same_path-other row.head.path path each.0) (ap (λ (rest : List FileRow). row ∷ rest) (none_at path change rows each.1))

@@ -100,7 +100,8 @@ fn set_one(set: &PinRow, pin: &mut PinRow)
     }
 }
 
-fn set_each(set: &PinRow, pins: &mut [PinRow])
+/// Puts a PIN in the place of the one with its number.
+pub fn set_in_pins(set: &PinRow, pins: &mut [PinRow])
     ensures { pins.new ≡ with_pin set.now pins.old }
 {
     for pin in pins.iter_mut() {
@@ -112,7 +113,7 @@ fn set_pin(set: &PinRow, pins: &mut LongList<PinRow>)
     ensures { pins.new ≡ with_pin set.now pins.old }
 {
     let mut held = take_all(pins);
-    set_each(set, held.as_mut_slice());
+    set_in_pins(set, held.as_mut_slice());
     *pins = LongList::from(held);
 }
 

@@ -10,7 +10,8 @@ use crate::window::overwrite;
 use file_rows::{Change, FileRow};
 use plain_lists::LongList;
 
-fn write_bytes(bytes: &[u8], offset: usize, body: &mut [u8])
+/// Writes bytes over those of a body, from an offset on.
+pub fn write_bytes(bytes: &[u8], offset: usize, body: &mut [u8])
     requires { offset + length bytes.now ≤ length body.old }
     ensures { body.new ≡ written offset bytes.now body.old }
 {
@@ -27,8 +28,9 @@ fn insert_bytes(bytes: &[u8], body: &mut [u8])
     body[..bytes.len()].copy_from_slice(bytes);
 }
 
-// Puts a record in its place, counted from 1, or as number 0 before the others.
-fn put_bytes(number: u8, bytes: &[u8], body: &mut [u8])
+/// Puts a record in its place, counted from 1, or as number 0 before the others, of which the last
+/// goes.
+pub fn put_bytes(number: u8, bytes: &[u8], body: &mut [u8])
     requires { HasPlaceFor number bytes.now body.old }
     ensures { body.new ≡ with_record number bytes.now body.old }
 {

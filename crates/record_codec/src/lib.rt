@@ -29,10 +29,12 @@ mod takes;
 mod window;
 mod writing;
 
+pub use content_change::set_in_pins;
 pub use copy_record::CopyRecord;
 pub use copying::{copy_record_len, put_copy_record};
 pub use durable::{Durable, Heads, ProfileList};
 pub use fault::RecordFault;
+pub use file_change::{put_bytes, write_bytes};
 pub use laws::{
     codings_are_unique, fitting_records_are_short, fitting_records_have_sizes,
     reading_is_of_codings, records_are_local, records_fit_by_kind,

@@ -1,7 +1,7 @@
 use Rattle.std.proofs.Common.{◌≡◌, ◌∙◌, cond, nat_eq, set, sym, ap, subst}
 use Rattle.std.proofs.lemmas.List.Edits.{map_over_more}
 use Rattle.file_rows.specs.declared.pin.PinRow.{PinRow}
-use Rattle.record_codec.proofs.content_change.set_each.Goals as goal
+use Rattle.record_codec.proofs.content_change.set_in_pins.Goals as goal
 
 pub loop-pin-preserved : goal.loop-pin-preserved
 loop-pin-preserved c =

@@ -1,0 +1,6 @@
+use Rattle.std.proofs.Common.{◌∙◌, sym}
+use Rattle.card_journal.proofs.PoolLemmas.{heads_of-pooled_rows}
+use Rattle.card_journal.proofs.pool.pooled.PooledContent.heads.Goals as goal
+
+pub returns : goal.returns
+returns c = rw (← c.self.view_is) (c.deref.ensures.value ∙ sym (heads_of-pooled_rows c.self.inside.heads.items c.self.inside.bodies.items))
