@@ -22,7 +22,7 @@ use Rattle.card_journal.proofs.ImageLemmas.{one_card}
 use Rattle.card_journal.specs.StoreState.{Commits, KeepsCard, StoreState}
 use Rattle.card_journal.specs.Read.{OnlyReads}
 use Rattle.card_journal.specs.Stored.{EndsClean, HoldsEither, HoldsWith, IsStored}
-use Rattle.card_journal.specs.CardState.{IsHeldWith}
+use Rattle.card_journal.specs.CardStoreState.{IsHeldWith}
 use Rattle.card_journal.proofs.OpenLemmas.{ends_erased}
 
 -- of erased bytes the first few

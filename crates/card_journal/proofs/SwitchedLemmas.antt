@@ -13,7 +13,7 @@ use Rattle.flash_pages.proofs.RowLemmas.{length-row_of}
 use Rattle.flash_pages.proofs.SwitchByte.{one_next_byte}
 use Rattle.flash_pages.proofs.Touched.{at_some, flash_size, from_each, known, known_after, same_some}
 use Rattle.record_codec.specs.declared.durable.Durable.{Durable}
-use Rattle.card_journal.specs.CardState.{CameBack}
+use Rattle.card_journal.specs.CardStoreState.{CameBack}
 use Rattle.card_journal.specs.Image.{bank_of, switch_row}
 use Rattle.card_journal.specs.StoreState.{HasNextByte, IsUsedUp, IsWorn, OpensTorn}
 use Rattle.card_journal.specs.Stored.{EndsClean, EndsTorn}

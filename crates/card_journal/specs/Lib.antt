@@ -1,4 +1,4 @@
-pub mod CardState
+pub mod CardStoreState
 pub mod CommitFault
 pub mod Copy
 pub mod CopyBody

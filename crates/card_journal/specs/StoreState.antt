@@ -3,7 +3,7 @@ use Rattle.std.specs.Prelude.{ℕ, ◌≡◌, List, ◌<◌, ◌≤◌, ◌+◌,
 use Rattle.flash_pages.specs.Bank.{IsPlaceIn, end_of}
 use Rattle.flash_pages.specs.Flash.{FlashState}
 use Rattle.flash_pages.specs.Switch.{IsNextByte}
-use Rattle.card_journal.specs.CardState.{CardState, IsAtomic, IsHeldWith, IsKept}
+use Rattle.card_journal.specs.CardStoreState.{CardStoreState, IsAtomic, IsHeldWith, KeepsHeld}
 use Rattle.card_journal.specs.Image.{HoldsCard, MakesCard, bank_of, switch_row}
 use Rattle.card_journal.specs.Read.{OnlyReads}
 use Rattle.card_journal.specs.Stored.{EndsClean, EndsTorn}
@@ -34,12 +34,12 @@ pub record IsUsable (store : StoreState) : Type 0 where
       (EndsClean store.held store.live store.end)
 
 -- what contracts see of any store of a card
-abbrev pub card_of : StoreState → CardState
-card_of store =
+abbrev pub card_store_of : StoreState → CardStoreState
+card_store_of store =
     record { held = store.held; unrepaired = store.unrepaired; flash = store.flash }
 
 abbrev pub KeepsCard : StoreState → Type 0
-KeepsCard store = IsKept HoldsCard (card_of store)
+KeepsCard store = KeepsHeld HoldsCard (card_store_of store)
 
 -- a commit takes the record: it fits what is held, and makes no new card
 pub record MayCommit (held : Durable) (entry : Record) : Type 0 where
@@ -86,7 +86,7 @@ pub record IsRefusedWorn (old new : StoreState) (entry : Record) : Type 0 where
 -- the record that was unrepaired, or after this one. From its end on the flash keeps what the store
 -- then holds.
 abbrev pub Commits : StoreState → StoreState → Record → Type 0
-Commits old new entry = IsAtomic HoldsCard (card_of old) (card_of new) entry
+Commits old new entry = IsAtomic HoldsCard (card_store_of old) (card_store_of new) entry
 
 -- an opening of the image needs a switch, whatever the number of its switch row
 abbrev pub OpensTorn : List ℕ → ℕ → Type 0

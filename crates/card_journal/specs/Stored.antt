@@ -4,7 +4,7 @@ use Rattle.flash_pages.specs.Append.{EndsBlank}
 use Rattle.flash_pages.specs.Bank.{bank_bytes, start_of}
 use Rattle.flash_pages.specs.Flash.{FlashState, MayLeaveOnly, Throughout}
 use Rattle.flash_pages.specs.Switch.{live_of}
-use Rattle.card_journal.specs.CardState.{HoldsOneOf}
+use Rattle.card_journal.specs.CardStoreState.{HoldsOneOf}
 use Rattle.card_journal.specs.Image.{AreCodings, HoldsCard, Leave, bank_of, switch_row}
 use Rattle.record_codec.specs.Apply.{apply}
 use Rattle.record_codec.specs.declared.durable.Durable.{Durable}

@@ -2,7 +2,7 @@
 ghost use Rattle.card_journal.specs.Image.{HoldsCard};
 ghost use Rattle.card_journal.specs.Store.{store_of};
 ghost use Rattle.card_journal.specs.StoreState.{IsUsable, IsUsedUp, NeedsSwitch, OpensTorn};
-ghost use Rattle.card_journal.specs.StoreState.{card_of};
+ghost use Rattle.card_journal.specs.StoreState.{card_store_of};
 
 use crate::{BankStore, CardStore, CommitFault, OpenFault};
 use file_rows::Content;
@@ -10,7 +10,7 @@ use flash_pages::Flash;
 use record_codec::{Heads, NoMemory, Record};
 
 impl<F: Flash> CardStore for BankStore<F> {
-    ghost state = { λ store. card_of (store_of F.state store) };
+    ghost state = { λ store. card_store_of (store_of F.state store) };
 
     ghost is_open = { λ store. IsUsable (store_of F.state store) };
 

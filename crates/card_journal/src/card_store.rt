@@ -1,7 +1,7 @@
 ghost use Rattle.std.specs.Prelude.{◌≡◌, ◌⊎◌, ◌↔◌, ℕ, List, None, Some, IfErr, IfOk, IfSome};
 ghost use Rattle.std.specs.Prelude.{IsErrOf, IsSome, IsTrue, OnErr, OnOk};
-ghost use Rattle.card_journal.specs.CardState.{CameBack, CardState, HoldsOneOf, IsAtomic};
-ghost use Rattle.card_journal.specs.CardState.{IsHeldWith, IsKept, IsRefusedUsedUp, OpensUsedUp};
+ghost use Rattle.card_journal.specs.CardStoreState.{CameBack, CardStoreState, HoldsOneOf, IsAtomic};
+ghost use Rattle.card_journal.specs.CardStoreState.{IsHeldWith, KeepsHeld, IsRefusedUsedUp, OpensUsedUp};
 ghost use Rattle.card_journal.specs.CommitFault.{IsCauseOf};
 ghost use Rattle.card_journal.specs.OpenFault.{HasRisen};
 ghost use Rattle.card_journal.specs.StoreState.{MayCommit};
@@ -22,7 +22,7 @@ use record_codec::{Heads, NoMemory, Record};
 /// `holds` says what an image of the flash holds. A store has parts that are written anew by a
 /// switch, each with a switch row; a switch row that has no byte left to use is used up.
 pub trait CardStore {
-    ghost state: { Self → CardState };
+    ghost state: { Self → CardStoreState };
 
     // Calls other than `restart` may be made.
     ghost is_open: { Self → Type 0 };
@@ -69,7 +69,7 @@ pub trait CardStore {
         ensures refused { OnErr result (((state self.new).held ≡ (state self.old).held)
             × (((state self.new).unrepaired ≡ (state self.old).unrepaired)
             ⊎ ((state self.new).unrepaired ≡ Some entry.now))) }
-        ensures atomic { IsKept holds (state self.old)
+        ensures atomic { KeepsHeld holds (state self.old)
             → IsAtomic holds (state self.old) (state self.new) entry.now }
         ensures next { OnOk result ((row : ℕ) → needs_switch self.old entry.now row
             → IfSome (state self.old).flash.bytes (λ image. ¬ is_used_up row image)) }
@@ -92,20 +92,20 @@ pub trait CardStore {
         ensures repaired { OnOk result ((state self.new).unrepaired ≡ None) }
         ensures refused { OnErr result (((state self.new).held ≡ (state self.old).held)
             × ((state self.new).unrepaired ≡ (state self.old).unrepaired)) }
-        ensures reopens { OnOk result (IsKept holds (state self.old)
+        ensures reopens { OnOk result (KeepsHeld holds (state self.old)
             → IsSome (state self.old).flash.bytes
             → IsHeldWith (state self.old).held (state self.old).unrepaired
             (state self.new).held) }
         ensures holds { OnOk result (IfSome (state self.new).flash.bytes
             (λ image. holds image (state self.new).held)) }
-        ensures throughout { IsKept holds (state self.old)
+        ensures throughout { KeepsHeld holds (state self.old)
             → Throughout (HoldsOneOf holds (state self.old).held (state self.old).unrepaired)
             (state self.old).flash (state self.new).flash }
-        ensures kept { IsKept holds (state self.old) → IsKept holds (state self.new) }
+        ensures kept { KeepsHeld holds (state self.old) → KeepsHeld holds (state self.new) }
         ensures card { IsErrOf result OpenFault.NotACard
             → IfSome (state self.new).flash.bytes
             (λ image. (held : Durable) → ¬ holds image held) }
-        ensures never { IsErrOf result OpenFault.NotACard → IsKept holds (state self.old)
+        ensures never { IsErrOf result OpenFault.NotACard → KeepsHeld holds (state self.old)
             → ¬ IsSome (state self.old).flash.bytes }
         ensures next { OnOk result (CameBack opens_torn is_used_up (state self.old).flash) }
         ensures worn { IsErrOf result OpenFault.Worn → IfSome (state self.new).flash.bytes

@@ -1,7 +1,7 @@
 // What a flash holds, read when a store is opened.
 ghost use Rattle.std.specs.Prelude.{◌≡◌, ◌↔◌, ◌<◌, ◌⊎◌, ℕ, IfOk, IfSome, IsErrOf, IsSome, IsTrue, OnOk};
 ghost use Rattle.port_io.specs.Faults.{OnlyWhereRose};
-ghost use Rattle.card_journal.specs.CardState.{CameBack};
+ghost use Rattle.card_journal.specs.CardStoreState.{CameBack};
 ghost use Rattle.card_journal.specs.Image.{HoldsCard, bank_of};
 ghost use Rattle.card_journal.specs.NotOpened.{fault_of};
 ghost use Rattle.card_journal.specs.Read.{OnlyReads};

@@ -1,7 +1,7 @@
 ghost use Rattle.std.specs.Prelude.{◌≡◌, ◌≢◌, ◌≤◌, ◌+◌, ◌⊎◌, ◌↔◌, ⊤, ℕ, None, Some, length};
 ghost use Rattle.std.specs.Prelude.{IfErr, IfOk, IfSome, IsErrOf, IsOk, IsSome, IsTrue, OnErr, OnOk};
 ghost use Rattle.port_io.specs.Faults.{FailsOnlyWhereRose, OnlyWhereRose};
-ghost use Rattle.card_journal.specs.CardState.{CameBack};
+ghost use Rattle.card_journal.specs.CardStoreState.{CameBack};
 ghost use Rattle.card_journal.specs.CommitFault.{IsCauseOf};
 ghost use Rattle.card_journal.specs.Image.{HoldsCard, bank_of};
 ghost use Rattle.card_journal.specs.Made.{HasPorts, HoldsNoneOr, IsBlank, made_card};

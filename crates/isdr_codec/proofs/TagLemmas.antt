@@ -4,7 +4,7 @@ use Rattle.std.specs.Prelude.{◌==◌, ◌||◌, option_map}
 use Rattle.std.proofs.lemmas.List.{take_rest}
 use Rattle.std.proofs.lemmas.Bool.{ne_eqb}
 use Rattle.ber_tlv.proofs.ObjectLemmas.{ltb-is, ltb-not}
-use Rattle.isdr_codec.specs.ProfilesInfo.{bit_of_tag, fields_asked, is_listed, tags_in}
+use Rattle.isdr_codec.specs.ProfilesInfo.{bit_of_tag, fields_asked, has_tag, tags_in}
 
 one : (a : ℕ) (more : List ℕ) → (a % 32 == 31) ≡ false → tags_in (a ∷ more) ≡ option_map (λ tags. a ∷ tags) (tags_in more)
 one a [] is = rw is refl
@@ -51,24 +51,24 @@ tag_3 s t some long above last is = subst (λ (rest : List ℕ). tags_in s ≡ o
 
 -- whether a tag is among those of a list of tags
 abbrev pub listed_in : ℕ → List ℕ → Option Bool
-listed_in tag bytes = option_map (is_listed tag) (tags_in bytes)
+listed_in tag bytes = option_map (has_tag tag) (tags_in bytes)
 
 joined : (so_far here : Bool) (rest : Bool) → (so_far || (here || rest)) ≡ ((so_far || here) || rest)
 joined true here rest = refl
 joined false here rest = refl
 
 stepped : (tag other : ℕ) (so_far : Bool) (tags : Option (List ℕ))
-    → option_map (λ b. so_far || b) (option_map (is_listed tag) (option_map (λ tags. other ∷ tags) tags)) ≡ option_map (λ b. (so_far || (other == tag)) || b) (option_map (is_listed tag) tags)
+    → option_map (λ b. so_far || b) (option_map (has_tag tag) (option_map (λ tags. other ∷ tags) tags)) ≡ option_map (λ b. (so_far || (other == tag)) || b) (option_map (has_tag tag) tags)
 stepped tag other so_far None = refl
-stepped tag other so_far (Some tags) = ap (λ (b : Bool). Some b) (joined so_far (other == tag) (is_listed tag tags))
+stepped tag other so_far (Some tags) = ap (λ (b : Bool). Some b) (joined so_far (other == tag) (has_tag tag tags))
 
 pub next : (tag other : ℕ) (so_far : Bool) (value rest behind : List ℕ) → tags_in rest ≡ option_map (λ tags. other ∷ tags) (tags_in behind)
     → option_map (λ b. so_far || b) (listed_in tag rest) ≡ listed_in tag value → option_map (λ b. (so_far || (other == tag)) || b) (listed_in tag behind) ≡ listed_in tag value
 next tag other so_far value rest behind is so =
-    sym (ap (λ (tags : Option (List ℕ)). option_map (λ b. so_far || b) (option_map (is_listed tag) tags)) is ∙ stepped tag other so_far (tags_in behind)) ∙ so
+    sym (ap (λ (tags : Option (List ℕ)). option_map (λ b. so_far || b) (option_map (has_tag tag) tags)) is ∙ stepped tag other so_far (tags_in behind)) ∙ so
 
 pub broken : (tag : ℕ) (so_far : Bool) (value rest : List ℕ) → tags_in rest ≡ None → option_map (λ b. so_far || b) (listed_in tag rest) ≡ listed_in tag value → listed_in tag value ≡ None
-broken tag so_far value rest none so = sym so ∙ ap (λ (tags : Option (List ℕ)). option_map (λ b. so_far || b) (option_map (is_listed tag) tags)) none
+broken tag so_far value rest none so = sym so ∙ ap (λ (tags : Option (List ℕ)). option_map (λ b. so_far || b) (option_map (has_tag tag) tags)) none
 
 or_false : (b : Bool) → (b || false) ≡ b
 or_false true = refl
@@ -86,15 +86,15 @@ pub at_first : (tag : ℕ) (value : List ℕ) → option_map (λ b. false || b) 
 at_first tag value = same (listed_in tag value)
 
 -- the bit of a tag, from whether it is listed
-pub bit_set : (tag bit : ℕ) (tags : Option (List ℕ)) → Some true ≡ option_map (is_listed tag) tags → Some bit ≡ option_map (bit_of_tag tag bit) tags
+pub bit_set : (tag bit : ℕ) (tags : Option (List ℕ)) → Some true ≡ option_map (has_tag tag) tags → Some bit ≡ option_map (bit_of_tag tag bit) tags
 bit_set tag bit None is = absurd cc
-bit_set tag bit (Some tags) is = let its : is_listed tag tags ≡ true = cc in rw its refl
+bit_set tag bit (Some tags) is = let its : has_tag tag tags ≡ true = cc in rw its refl
 
-pub bit_unset : (tag bit : ℕ) (tags : Option (List ℕ)) → Some false ≡ option_map (is_listed tag) tags → Some 0 ≡ option_map (bit_of_tag tag bit) tags
+pub bit_unset : (tag bit : ℕ) (tags : Option (List ℕ)) → Some false ≡ option_map (has_tag tag) tags → Some 0 ≡ option_map (bit_of_tag tag bit) tags
 bit_unset tag bit None is = absurd cc
-bit_unset tag bit (Some tags) is = let its : is_listed tag tags ≡ false = cc in rw its refl
+bit_unset tag bit (Some tags) is = let its : has_tag tag tags ≡ false = cc in rw its refl
 
-pub no_bit : (tag bit : ℕ) (tags : Option (List ℕ)) → None ≡ option_map (is_listed tag) tags → None ≡ option_map (bit_of_tag tag bit) tags
+pub no_bit : (tag bit : ℕ) (tags : Option (List ℕ)) → None ≡ option_map (has_tag tag) tags → None ≡ option_map (bit_of_tag tag bit) tags
 no_bit tag bit None is = refl
 no_bit tag bit (Some tags) is = absurd cc
 

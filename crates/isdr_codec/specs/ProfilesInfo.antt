@@ -24,12 +24,12 @@ tags_in (a ∷ b ∷ c ∷ more) =
     else option_map (λ tags. a ∷ tags) (tags_in (b ∷ c ∷ more))
 
 -- whether a tag is among these
-abbrev pub is_listed : ℕ → List ℕ → Bool
-is_listed tag tags = list_any (λ other. other == tag) tags
+abbrev pub has_tag : ℕ → List ℕ → Bool
+has_tag tag tags = list_any (λ other. other == tag) tags
 
 -- the bit of a field, where its tag is among these
 abbrev pub bit_of_tag : ℕ → ℕ → List ℕ → ℕ
-bit_of_tag tag bit tags = if is_listed tag tags then bit else 0
+bit_of_tag tag bit tags = if has_tag tag tags then bit else 0
 
 -- the fields that are asked for, a bit for each: from bit 0 the ICCID, the AID, the state, the port,
 -- the nickname, the service provider, the name and the class

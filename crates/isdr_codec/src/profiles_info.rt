@@ -1,6 +1,6 @@
 //! GetProfilesInfo, and the tags of the fields that it asks for.
 ghost use Rattle.std.specs.Prelude.{◌≡◌, ◌≢◌, ◌∷◌, ◌<◌, [], None, MatchOption, IfSome, ◌≤◌, length, option_map};
-ghost use Rattle.isdr_codec.specs.ProfilesInfo.{bit_of_tag, fields_asked, fields_where, is_listed, profiles_info_in, tags_in};
+ghost use Rattle.isdr_codec.specs.ProfilesInfo.{bit_of_tag, fields_asked, fields_where, has_tag, profiles_info_in, tags_in};
 
 use crate::Request;
 use crate::fields::field_in;
@@ -27,8 +27,8 @@ fn first_tag(bytes: &[u8]) -> Option<(u32, &[u8])>
 }
 
 // Whether a tag is among those of a list of tags. There is no answer where it isn't such a list.
-fn is_listed(tag: u32, bytes: &[u8]) -> Option<bool>
-    ensures { result ≡ option_map (is_listed tag) (tags_in bytes.now) }
+fn has_tag(tag: u32, bytes: &[u8]) -> Option<bool>
+    ensures { result ≡ option_map (has_tag tag) (tags_in bytes.now) }
 {
     let mut listed = false;
     let mut rest = bytes;
@@ -45,7 +45,7 @@ fn bit_of_tag(tag: u32, bit: u8, bytes: &[u8]) -> Option<u8>
     ensures value { result ≡ option_map (bit_of_tag tag bit) (tags_in bytes.now) }
     ensures at_most { IfSome result (λ its. its ≤ bit) }
 {
-    match is_listed(tag, bytes) {
+    match has_tag(tag, bytes) {
         Some(true) => Some(bit),
         Some(false) => Some(0),
         None => None,

@@ -3,8 +3,8 @@ use Rattle.std.specs.Prelude.{◌+◌, ◌-◌, ◌*◌, ◌<◌, ◌≤◌, ◌
 use Rattle.package_reader.specs.ReaderState.{ReaderState}
 use Rattle.package_reader.specs.declared.elements.Elements.TheInside.{Inside}
 
-abbrev pub state_of : Inside → ReaderState
-state_of fields = record {
+abbrev pub reader_state_of : Inside → ReaderState
+reader_state_of fields = record {
   place = fields.read;
   unread = drop fields.read fields.bytes.items;
   value = fields.value;

@@ -32,9 +32,9 @@ impl Model for Elements {
     ghost Value = { ReaderState };
 
     ghost use Rattle.std.specs.Prelude.{◌≡◌, ◌+◌, ◌-◌, ◌*◌, ◌<◌, ◌≤◌, ◌^◌, drop, take, length, vec_len, vec_capacity};
-    ghost use Rattle.package_reader.specs.Fields.{state_of, AreFields};
+    ghost use Rattle.package_reader.specs.Fields.{reader_state_of, AreFields};
 
-    ghost view = { state_of };
+    ghost view = { reader_state_of };
 
     ghost invariant = { AreFields };
 }

@@ -1,6 +1,6 @@
 use Rattle.std.proofs.Common.{◌≡◌, None, IfSome, Result, Ok, Err, OnOk}
 use Rattle.card_journal.proofs.AppendLemmas.{holds_card}
-use Rattle.card_journal.specs.CardState.{OpensUsedUp}
+use Rattle.card_journal.specs.CardStoreState.{OpensUsedUp}
 use Rattle.card_journal.specs.Image.{HoldsCard}
 use Rattle.card_journal.specs.Store.{store_of}
 use Rattle.card_journal.specs.StoreState.{IsUsable, IsUsedUp, IsWorn, OpensTorn, StoreState}

@@ -6,7 +6,7 @@ use Rattle.record_codec.specs.Apply.{apply}
 use Rattle.record_codec.specs.declared.durable.Durable.{Durable}
 use Rattle.record_codec.specs.declared.record.Record.{Record}
 
-pub record CardState : Type 1 where
+pub record CardStoreState : Type 1 where
   -- what the card holds
   pub held : Durable
   -- the record whose commit failed, as long as that isn't repaired
@@ -27,22 +27,22 @@ HoldsOneOf holds held (Some entry) image = holds image held ⊎ holds image (app
 -- The flash keeps what the store holds: each content that a restart may leave, of which what reads
 -- return is one, holds that. Where a record is unrepaired, each of these holds that, or that after
 -- the record.
-abbrev pub IsKept : (List ℕ → Durable → Type 0) → CardState → Type 0
-IsKept holds store = MayLeaveOnly store.flash (HoldsOneOf holds store.held store.unrepaired)
+abbrev pub KeepsHeld : (List ℕ → Durable → Type 0) → CardStoreState → Type 0
+KeepsHeld holds store = MayLeaveOnly store.flash (HoldsOneOf holds store.held store.unrepaired)
 
 -- A commit of a record: each image since it began holds what was held, or that after the record
 -- that was unrepaired, or after this one. From its end on the flash keeps what the store then holds.
-pub record IsAtomic (holds : List ℕ → Durable → Type 0) (old new : CardState) (entry : Record)
+pub record IsAtomic (holds : List ℕ → Durable → Type 0) (old new : CardStoreState) (entry : Record)
     : Type 0 where
   pub images : LeavesOnly old.flash new.flash
       (λ image. HoldsOneOf holds old.held old.unrepaired image
       ⊎ holds image (apply old.held entry))
-  pub keeps : IsKept holds new
+  pub keeps : KeepsHeld holds new
 
 -- A commit that was refused since a switch row is used up: it needed a switch of the part with that
 -- row, the flash was only read, and what is unrepaired is as before.
 pub record IsRefusedUsedUp (needs : ℕ → Type 0) (is_used_up : ℕ → List ℕ → Type 0)
-    (old new : CardState) : Type 0 where
+    (old new : CardStoreState) : Type 0 where
   pub row : ℕ
   pub needed : needs row
   pub used_up : IfSome old.flash.bytes (is_used_up row)

@@ -1,6 +1,6 @@
 use Rattle.isdr_codec.proofs.FieldLemmas.{is_empty, not_empty}
 use Rattle.isdr_codec.proofs.TagLemmas.{at_first, broken, ended, next}
-use Rattle.isdr_codec.proofs.profiles_info.is_listed.Goals as goal
+use Rattle.isdr_codec.proofs.profiles_info.has_tag.Goals as goal
 
 pub loop-rest-init : goal.loop-rest-init
 loop-rest-init c = at_first c.args.tag c.args.bytes.now
