@@ -19,6 +19,7 @@ use std::test::Fail;
 use uicc_channels::{Decided, SessionChange, fresh};
 
 mod access;
+mod long_file;
 mod sessions;
 
 const PORT_1_OF_A1: Place = Place {
@@ -226,7 +227,11 @@ fn content_with_application(alloc: Global) -> Result<Content, NoMemory> {
         )?,
         imsi(alloc)?,
     ];
-    let pins = [make_pin(1, 0x01), make_pin(2, 0x0A)];
+    let pin = PinRow {
+        value: [0x31, 0x32, 0x33, 0x34, 0xFF, 0xFF, 0xFF, 0xFF],
+        ..make_pin(1, 0x01)
+    };
+    let pins = [pin, make_pin(2, 0x0A)];
     Ok(Content {
         rows: LongList::from(Vec::from_array(alloc, rows)?),
         pins: LongList::from(Vec::from_array(alloc, pins)?),
@@ -283,7 +288,7 @@ fn a_modem_finds_the_application(rt: HostRuntime) -> Result<(), Fail> {
             0x9000,
         ),
         (b"\x00\xB0\x87\x00\x09", b"", 0x6982),
-        (b"\x00\x20\x00\x01\x0888888888", b"", 0x9000),
+        (b"\x00\x20\x00\x01\x081234\xFF\xFF\xFF\xFF", b"", 0x9000),
         (b"\x00\xB0\x87\x00\x09", IMSI, 0x9000),
         (b"\x80\xF2\x00\x00\x00", USIM_PARAMETERS, 0x9000),
         (
@@ -368,6 +373,7 @@ fn memory_is_reserved_and_a_change_made(rt: HostRuntime) -> Result<(), Fail> {
 #[test]
 fn the_laws_are_callable() {
     cards_stay_sound();
+    commands_change_the_file_they_work_on();
     commands_have_one_run();
     commands_stay_on_their_channel();
     common_commands_are_unknown_to_the_card();
