@@ -2,9 +2,6 @@
 ghost use Rattle.card_journal.specs.Store.{store_of};
 ghost use Rattle.card_journal.specs.StoreState.{IsUsable};
 
-mod cuts;
-mod random;
-
 use super::*;
 use flash_pages::{Bank, Body, FLASH_LEN, Flash, FlashPlan, MemoryFlash};
 use record_codec::Record;
