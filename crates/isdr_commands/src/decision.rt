@@ -1,5 +1,5 @@
 ghost use Rattle.std.specs.Prelude.{◌≡◌, [], ◌∷◌};
-ghost use Rattle.isdr_commands.specs.Decision.{accepted, refused_with, refusal_number};
+ghost use Rattle.isdr_commands.specs.Decision.{accepted, refused_with, refusal_number, told};
 
 use crate::refusal::Refusal;
 use crate::{Move, Moves, Reply};
@@ -15,18 +15,25 @@ pub struct Decision {
 }
 
 impl Decision {
-    // A refusal: nothing is recorded and no port moves.
-    pub fn refused(tag: u32, refusal: Refusal) -> Self
-        ensures { result ≡ refused_with tag (refusal_number refusal) }
+    // A reply alone: nothing is recorded and no port moves.
+    pub fn told(reply: Reply) -> Self
+        ensures { result ≡ told reply }
     {
         Decision {
-            reply: Reply::Outcome {
-                tag,
-                result: refusal.number(),
-            },
+            reply,
             entry: None,
             moves: Moves::new(),
         }
+    }
+
+    // A refusal.
+    pub fn refused(tag: u32, refusal: Refusal) -> Self
+        ensures { result ≡ refused_with tag (refusal_number refusal) }
+    {
+        Decision::told(Reply::Outcome {
+            tag,
+            result: refusal.number(),
+        })
     }
 
     // Result 0, with the record and the ports that move.

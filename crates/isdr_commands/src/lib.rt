@@ -4,21 +4,25 @@
 //! Nothing here takes memory.
 #![tactic(auto)]
 
+mod ascending;
 mod counts;
 mod decision;
 mod delete;
 mod disable;
 mod enable;
 mod install;
+mod memory_reset;
 mod moves;
 mod naming;
+mod nickname;
+mod notifications;
+mod profiles_info;
 mod refusal;
 mod reply;
+mod requests;
 
 pub use decision::Decision;
-pub use delete::delete_profile;
-pub use disable::disable_profile;
-pub use enable::enable_profile;
 pub use install::{LoadRefusal, install_check};
 pub use moves::{Move, Moves};
 pub use reply::Reply;
+pub use requests::decide;

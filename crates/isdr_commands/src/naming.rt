@@ -40,7 +40,8 @@ pub fn are_same(one: &[u8], other: &[u8]) -> bool
     one == other
 }
 
-fn is_named(who: &Who, head: &ProfileHead) -> bool
+// Whether a request names the profile.
+pub fn is_named(who: &Who, head: &ProfileHead) -> bool
     ensures { result ≡ is_named who.now head.now }
 {
     match who {
@@ -62,7 +63,8 @@ pub fn profile_named<'a>(who: &Who, profiles: &'a [ProfileHead]) -> Option<&'a P
     None
 }
 
-fn head_of(number: u16, profiles: &[ProfileHead]) -> Option<&ProfileHead>
+// The head of the profile of that number.
+pub fn head_of(number: u16, profiles: &[ProfileHead]) -> Option<&ProfileHead>
     ensures found { IfSome result (λ head. head_of number profiles.now ≡ Some head.now) }
     ensures none { IfNone result (head_of number profiles.now ≡ None) }
 {
