@@ -5,6 +5,7 @@ pub mod DisableProfile
 pub mod EnableProfile
 pub mod GetEid
 pub mod Installation
+pub mod Laws
 pub mod ListNotification
 pub mod Managed
 pub mod MemoryReset

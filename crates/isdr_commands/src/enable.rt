@@ -1,6 +1,5 @@
-ghost use Rattle.std.specs.Prelude.{◌≡◌, ◌<◌};
+ghost use Rattle.std.specs.Prelude.{◌≡◌, ◌≤◌, ◌<◌, length};
 ghost use Rattle.isdr_commands.specs.EnableProfile.{enabling, enabling_head, enabling_on};
-ghost use Rattle.record_codec.specs.IsDurable.{AreHeads};
 
 use crate::counts::{count_of, lacks_room};
 use crate::naming::{count_on, is_busy, is_kept_on, profile_named, standing_on};
@@ -59,7 +58,8 @@ fn enable(
     given: Option<u8>,
     head: &ProfileHead,
 ) -> Decision
-    requires are { AreHeads heads.now }
+    requires places { length heads.now.ports.on ≡ heads.now.ports.count }
+    requires few { heads.now.ports.count ≤ 8 }
     requires came { came < heads.now.ports.count }
     ensures { result ≡ enabling_head heads.now busy.now came refresh given head.now }
 {
@@ -84,7 +84,8 @@ pub fn enable_profile(
     refresh: bool,
     given: Option<u8>,
 ) -> Decision
-    requires are { AreHeads heads.now }
+    requires places { length heads.now.ports.on ≡ heads.now.ports.count }
+    requires few { heads.now.ports.count ≤ 8 }
     requires came { came < heads.now.ports.count }
     ensures { result ≡ enabling heads.now busy.now came who.now refresh given }
 {

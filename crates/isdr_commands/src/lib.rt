@@ -11,6 +11,7 @@ mod delete;
 mod disable;
 mod enable;
 mod install;
+mod laws;
 mod memory_reset;
 mod moves;
 mod naming;
@@ -23,6 +24,10 @@ mod requests;
 
 pub use decision::Decision;
 pub use install::{LoadRefusal, install_check};
+pub use laws::{
+    accepted_requests_fit, installations_fit, notifications_stay_until_they_are_sent,
+    policy_keeps_profiles_enabled, refused_requests_move_nothing,
+};
 pub use moves::{Move, Moves};
 pub use reply::Reply;
 pub use requests::decide;

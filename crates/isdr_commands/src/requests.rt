@@ -1,6 +1,5 @@
-ghost use Rattle.std.specs.Prelude.{◌≡◌, ◌<◌};
+ghost use Rattle.std.specs.Prelude.{◌≡◌, ◌≤◌, ◌<◌, length};
 ghost use Rattle.isdr_commands.specs.Request.{managed};
-ghost use Rattle.record_codec.specs.IsDurable.{AreHeads};
 
 use crate::delete::delete_profile;
 use crate::disable::disable_profile;
@@ -18,7 +17,8 @@ use record_codec::Heads;
 /// request came on the port `port`. What each request's results are, in the order in which they are
 /// tested, stands at its own function. It looks at each profile, port and notification a few times.
 pub fn decide(heads: &Heads, busy: &[bool; 8], port: u8, request: &Request) -> Decision
-    requires are { AreHeads heads.now }
+    requires places { length heads.now.ports.on ≡ heads.now.ports.count }
+    requires few { heads.now.ports.count ≤ 8 }
     requires came { port < heads.now.ports.count }
     ensures { result ≡ managed heads.now busy.now port request.now }
 {
