@@ -1,3 +1,4 @@
+pub mod AloneLemmas
 pub mod CarryLemmas
 pub mod FoundLemmas
 pub mod InstallLemmas

@@ -2,7 +2,7 @@ ghost use Rattle.std.specs.Prelude.{◌≡◌, ◌≢◌, ℕ, Bool, true, List,
 ghost use Rattle.file_rows.specs.Content.{IsValid};
 ghost use Rattle.isdr_codec.specs.declared.request.Request.{Request};
 ghost use Rattle.isdr_commands.specs.Installation.{install_refusal};
-ghost use Rattle.isdr_commands.specs.Laws.{IsAsked, IsCarriedOut, Resets};
+ghost use Rattle.isdr_commands.specs.Laws.{Displaces, IsAsked, IsCarriedOut, LeavesAlone, NamesProfile, Resets};
 ghost use Rattle.isdr_commands.specs.Managed.{keeps_enabled};
 ghost use Rattle.isdr_commands.specs.Request.{managed};
 ghost use Rattle.notify_list.specs.declared.note.Note.{Note};
@@ -63,4 +63,15 @@ pub fn installations_fit()
         → IsValid profile.content → profile.head.number ≡ durable.heads.next_number
         → install_refusal durable.heads profile.head ≡ None
         → FitsCard durable (Record.PutProfile true profile None) }
+{}
+
+/// A request leaves alone every profile that it neither names nor displaces: its content, its head
+/// and its port.
+pub fn requests_leave_other_profiles_alone()
+    ensures { (durable : Durable) (busy : List Bool) (came number : ℕ) (request : Request)
+        (entry : Record) → IsAsked durable came request
+        → ¬ NamesProfile durable.heads.profiles request number
+        → ¬ Displaces (managed durable.heads busy came request) number
+        → (managed durable.heads busy came request).entry ≡ Some entry
+        → LeavesAlone durable (apply durable entry) number }
 {}

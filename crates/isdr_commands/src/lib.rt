@@ -27,6 +27,7 @@ pub use install::{LoadRefusal, install_check};
 pub use laws::{
     accepted_requests_fit, installations_fit, notifications_stay_until_they_are_sent,
     policy_keeps_profiles_enabled, refused_requests_move_nothing,
+    requests_leave_other_profiles_alone,
 };
 pub use moves::{Move, Moves};
 pub use reply::Reply;
