@@ -14,11 +14,11 @@ use Rattle.isdr_commands.proofs.PassLemmas.{past, past_profile}
 use Rattle.isdr_commands.proofs.ResetLemmas.{each_ascending}
 use Rattle.isdr_commands.specs.Ascending.{ascending}
 use Rattle.isdr_commands.specs.Decision.{accepted, refused_with}
-use Rattle.isdr_commands.specs.DeleteProfile.{deleting, deleting_head}
-use Rattle.isdr_commands.specs.DisableProfile.{disabling, disabling_head, disabling_on}
-use Rattle.isdr_commands.specs.EnableProfile.{enabling, enabling_head, enabling_on}
+use Rattle.isdr_commands.specs.DeleteProfile.{deleting_named, deleting_head}
+use Rattle.isdr_commands.specs.DisableProfile.{disabling_named, disabling_head, disabling_on}
+use Rattle.isdr_commands.specs.EnableProfile.{enabling_named, enabling_head, enabling_on}
 use Rattle.isdr_commands.specs.Laws.{Displaces, NamesProfile}
-use Rattle.isdr_commands.specs.Managed.{head_on, is_busy, is_kept, keeps_enabled, keeps_held, lacks_room, profile_named, standing_on}
+use Rattle.isdr_commands.specs.Managed.{head_on, is_busy, is_kept, keeps_enabled, keeps_held, lacks_room, profile_named, number_on}
 use Rattle.isdr_commands.specs.MemoryReset.{freed_from, is_reset, memory_reset, numbers_reset}
 use Rattle.isdr_commands.specs.Request.{managed}
 use Rattle.isdr_commands.specs.SetNickname.{naming_head}
@@ -77,9 +77,9 @@ module _ (heads : Heads) (differ : EachTwo HasOther heads.profiles) (busy : List
       past Spares entry 0xBF31 3 _ (is_kept (head_on port heads)) (λ kept.
       past Spares entry 0xBF31 5 _ (is_busy busy port) (λ quiet.
       past Spares entry 0xBF31 127 _ (lacks_room heads.notes (count_where Disable (head_on port heads) + count_of Enable one)) (λ room.
-      recorded 0xBF31 (records.Bind one.number port (standing_on port heads)) (record {
+      recorded 0xBF31 (records.Bind one.number port (number_on port heads)) (record {
         port = port;
-        leaves = standing_on port heads;
+        leaves = number_on port heads;
         comes = Some one.number;
         refresh = refresh;
       } ∷ []) (λ undisplaced. record {
@@ -88,7 +88,7 @@ module _ (heads : Heads) (differ : EachTwo HasOther heads.profiles) (busy : List
         port = λ touches. ⊎_elim (λ same. other same)
             (λ displaced. undisplaced (any_first (λ (move : Move). move.leaves ≡ Some number) (record {
               port = port;
-              leaves = standing_on port heads;
+              leaves = number_on port heads;
               comes = Some one.number;
               refresh = refresh;
             }) [] displaced)) touches;

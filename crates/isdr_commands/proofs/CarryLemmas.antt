@@ -7,11 +7,11 @@ use Rattle.isdr_commands.proofs.FoundLemmas.{HasOther, found_head, found_held}
 use Rattle.isdr_commands.proofs.MoveLemmas.{place_there, set_others, target_is, unbound_others, unbound_there}
 use Rattle.isdr_commands.proofs.PassLemmas.{has_room, none_there, past, past_profile}
 use Rattle.isdr_commands.specs.Decision.{accepted, refused_with}
-use Rattle.isdr_commands.specs.DeleteProfile.{deleting, deleting_head}
-use Rattle.isdr_commands.specs.DisableProfile.{disabling, disabling_head, disabling_on}
-use Rattle.isdr_commands.specs.EnableProfile.{enabling, enabling_head, enabling_on}
+use Rattle.isdr_commands.specs.DeleteProfile.{deleting_named, deleting_head}
+use Rattle.isdr_commands.specs.DisableProfile.{disabling_named, disabling_head, disabling_on}
+use Rattle.isdr_commands.specs.EnableProfile.{enabling_named, enabling_head, enabling_on}
 use Rattle.isdr_commands.specs.Laws.{AreMoves, IsCarriedOut, IsMoved}
-use Rattle.isdr_commands.specs.Managed.{head_on, is_busy, is_kept, is_named, keeps_enabled, keeps_held, lacks_room, profile_named, standing_on}
+use Rattle.isdr_commands.specs.Managed.{head_on, is_busy, is_kept, is_identified, keeps_enabled, keeps_held, lacks_room, profile_named, number_on}
 use Rattle.isdr_commands.specs.declared.decision.Decision.{Decision}
 use Rattle.isdr_commands.specs.declared.moves.Move.{Move}
 use Rattle.notify_list.specs.Notes.{HasNoteRoom}
@@ -43,18 +43,18 @@ module _ (durable : Durable) (are : IsDurable durable) (head : ProfileHead) (hel
   enabled : (port : ℕ) (refresh : Bool) → StandsNowhere durable.heads.ports head.number → port < durable.heads.ports.count
       → HasProfiles durable.heads.ports.mode port
       → HasNoteRoom durable.heads.notes (count_where Disable (head_on port durable.heads) + count_of Enable head)
-      → IsCarriedOut durable (records.Bind head.number port (standing_on port durable.heads))
-      (accepted 0xBF31 (records.Bind head.number port (standing_on port durable.heads)) (record {
+      → IsCarriedOut durable (records.Bind head.number port (number_on port durable.heads))
+      (accepted 0xBF31 (records.Bind head.number port (number_on port durable.heads)) (record {
         port = port;
-        leaves = standing_on port durable.heads;
+        leaves = number_on port durable.heads;
         comes = Some head.number;
         refresh = refresh;
       } ∷ []))
   enabled port refresh nowhere below place room =
       let within : port < length durable.heads.ports.on = omega (arith, below, are.heads.ports.rule.count) in
-      let there : slice_get durable.heads.ports.on port ≡ Some (standing_on port durable.heads) = place_there durable.heads.ports.on port within in
+      let there : slice_get durable.heads.ports.on port ≡ Some (number_on port durable.heads) = place_there durable.heads.ports.on port within in
       record {
-        fits = (fits_where durable (records.Bind head.number port (standing_on port durable.heads)) are).1 (record {
+        fits = (fits_where durable (records.Bind head.number port (number_on port durable.heads)) are).1 (record {
           heads = record {
             held = held;
             nowhere = nowhere;
@@ -68,7 +68,7 @@ module _ (durable : Durable) (are : IsDurable durable) (head : ProfileHead) (hel
           each = (
             record {
               left = there;
-              came = set_there durable.heads.ports.on port (Some head.number) (standing_on port durable.heads) there;
+              came = set_there durable.heads.ports.on port (Some head.number) (number_on port durable.heads) there;
               changes = λ same. nowhere port (there ∙ ap (λ (o : Option ℕ). Some o) same);
             },
             tt,
@@ -141,12 +141,12 @@ module _ (durable : Durable) (are : IsDurable durable) (busy : List Bool) (entry
       (has_room durable.heads.notes (count_where Disable (head_on port durable.heads) + count_of Enable head) room)))))
 
   pub enabling_carries : (came : ℕ) (who : Who) (refresh : Bool) (given : Option ℕ) → came < durable.heads.ports.count
-      → (enabling durable.heads busy came who refresh given).entry ≡ Some entry → Carries (enabling durable.heads busy came who refresh given)
+      → (enabling_named durable.heads busy came who refresh given).entry ≡ Some entry → Carries (enabling_named durable.heads busy came who refresh given)
   enabling_carries came who refresh given below =
       past_profile Carries entry 0xBF31 (enabling_head durable.heads busy came refresh given) (profile_named who durable.heads.profiles) (λ head found.
       past Carries entry 0xBF31 2 _ (is_some (port_of head.number durable.heads.ports.on)) (λ off.
-      enabling_carried head refresh (target_port durable.heads.ports came given) (found_held (is_named who) head durable.heads.profiles found)
-      (found_head (is_named who) head durable.heads.profiles are.heads.profiles.numbers found)
+      enabling_carried head refresh (target_port durable.heads.ports came given) (found_held (is_identified who) head durable.heads.profiles found)
+      (found_head (is_identified who) head durable.heads.profiles are.heads.profiles.numbers found)
       ((nowhere_found head.number durable.heads.ports).0 (none_there (port_of head.number durable.heads.ports.on) off))
       (λ port is. target_is durable.heads.ports came port given are.heads.ports.rule.count below is)))
 
@@ -161,21 +161,21 @@ module _ (durable : Durable) (are : IsDurable durable) (busy : List Bool) (entry
       carried durable 0xBF32 _ _ entry (disabled durable are head held named port refresh (on port refl)
       (has_room durable.heads.notes (count_of Disable head) room)))))
 
-  pub disabling_carries : (who : Who) (refresh : Bool) → (disabling durable.heads busy who refresh).entry ≡ Some entry
-      → Carries (disabling durable.heads busy who refresh)
+  pub disabling_carries : (who : Who) (refresh : Bool) → (disabling_named durable.heads busy who refresh).entry ≡ Some entry
+      → Carries (disabling_named durable.heads busy who refresh)
   disabling_carries who refresh =
       past_profile Carries entry 0xBF32 (disabling_head durable.heads busy refresh) (profile_named who durable.heads.profiles) (λ head found.
-      disabling_carried head refresh (port_of head.number durable.heads.ports.on) (found_held (is_named who) head durable.heads.profiles found)
-      (found_head (is_named who) head durable.heads.profiles are.heads.profiles.numbers found)
+      disabling_carried head refresh (port_of head.number durable.heads.ports.on) (found_held (is_identified who) head durable.heads.profiles found)
+      (found_head (is_identified who) head durable.heads.profiles are.heads.profiles.numbers found)
       (λ port is. stands head.number durable.heads.ports.on port is))
 
-  pub deleting_carries : (who : Who) → (deleting durable.heads who).entry ≡ Some entry → Carries (deleting durable.heads who)
+  pub deleting_carries : (who : Who) → (deleting_named durable.heads who).entry ≡ Some entry → Carries (deleting_named durable.heads who)
   deleting_carries who =
       past_profile Carries entry 0xBF33 (deleting_head durable.heads) (profile_named who durable.heads.profiles) (λ head found.
       past Carries entry 0xBF33 2 _ (is_some (port_of head.number durable.heads.ports.on)) (λ off.
       past Carries entry 0xBF33 3 _ (keeps_held head) (λ kept.
       past Carries entry 0xBF33 127 _ (lacks_room durable.heads.notes (count_of Delete head)) (λ room.
-      carried durable 0xBF33 _ _ entry (deleted durable are head (found_held (is_named who) head durable.heads.profiles found)
-      (found_head (is_named who) head durable.heads.profiles are.heads.profiles.numbers found)
+      carried durable 0xBF33 _ _ entry (deleted durable are head (found_held (is_identified who) head durable.heads.profiles found)
+      (found_head (is_identified who) head durable.heads.profiles are.heads.profiles.numbers found)
       ((nowhere_found head.number durable.heads.ports).0 (none_there (port_of head.number durable.heads.ports.on) off))
       (has_room durable.heads.notes (count_of Delete head) room))))))

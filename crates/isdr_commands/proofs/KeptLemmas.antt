@@ -14,11 +14,11 @@ use Rattle.isdr_commands.proofs.PassLemmas.{none_there, past, past_profile}
 use Rattle.isdr_commands.proofs.ResetLemmas.{each_ascending}
 use Rattle.isdr_commands.specs.Ascending.{ascending}
 use Rattle.isdr_commands.specs.Decision.{accepted, refused_with}
-use Rattle.isdr_commands.specs.DeleteProfile.{deleting, deleting_head}
-use Rattle.isdr_commands.specs.DisableProfile.{disabling, disabling_head, disabling_on}
-use Rattle.isdr_commands.specs.EnableProfile.{enabling, enabling_head, enabling_on}
+use Rattle.isdr_commands.specs.DeleteProfile.{deleting_named, deleting_head}
+use Rattle.isdr_commands.specs.DisableProfile.{disabling_named, disabling_head, disabling_on}
+use Rattle.isdr_commands.specs.EnableProfile.{enabling_named, enabling_head, enabling_on}
 use Rattle.isdr_commands.specs.Laws.{Resets}
-use Rattle.isdr_commands.specs.Managed.{head_on, is_busy, is_kept, is_named, keeps_enabled, keeps_held, lacks_room, profile_named, standing_on}
+use Rattle.isdr_commands.specs.Managed.{head_on, is_busy, is_kept, is_identified, keeps_enabled, keeps_held, lacks_room, profile_named, number_on}
 use Rattle.isdr_commands.specs.MemoryReset.{freed_from, is_reset, memory_reset, numbers_reset}
 use Rattle.isdr_commands.specs.Request.{managed}
 use Rattle.isdr_commands.specs.SetNickname.{naming_head}
@@ -100,7 +100,7 @@ module _ (heads : Heads) (differ : EachTwo HasOther heads.profiles) (busy : List
   is_other : (number : ℕ) → StandsNowhere heads.ports number → number ≢ head.number
   is_other number nowhere same = nowhere its_port (subst (λ (n : ℕ). StandsOn heads.ports n its_port) (sym same) on)
 
-  kept_on : (port : ℕ) → standing_on port heads ≡ Some head.number → is_kept (head_on port heads) ≡ true
+  kept_on : (port : ℕ) → number_on port heads ≡ Some head.number → is_kept (head_on port heads) ≡ true
   kept_on port at =
       ap (λ (o : Option ℕ). is_kept (option_and_then (λ number. head_of number heads.profiles) o)) at
       ∙ ap is_kept its ∙ keeps
@@ -112,10 +112,10 @@ module _ (heads : Heads) (differ : EachTwo HasOther heads.profiles) (busy : List
       past Spares entry 0xBF31 3 _ (is_kept (head_on port heads)) (λ kept.
       past Spares entry 0xBF31 5 _ (is_busy busy port) (λ quiet.
       past Spares entry 0xBF31 127 _ (lacks_room heads.notes (count_where Disable (head_on port heads) + count_of Enable one)) (λ room.
-      without Touches (records.Bind one.number port (standing_on port heads)) entry (λ touches.
+      without Touches (records.Bind one.number port (number_on port heads)) entry (λ touches.
       ⊎_elim (λ same. is_other one.number nowhere same) (λ displaced. true≢false (sym (kept_on port displaced) ∙ kept)) touches))))
 
-  enabling_spares : (came : ℕ) (who : Who) (refresh : Bool) (given : Option ℕ) → (enabling heads busy came who refresh given).entry ≡ Some entry → Touches entry → ⊥
+  enabling_spares : (came : ℕ) (who : Who) (refresh : Bool) (given : Option ℕ) → (enabling_named heads busy came who refresh given).entry ≡ Some entry → Touches entry → ⊥
   enabling_spares came who refresh given =
       past_profile Spares entry 0xBF31 (enabling_head heads busy came refresh given) (profile_named who heads.profiles) (λ one found.
       past Spares entry 0xBF31 2 _ (is_some (port_of one.number heads.ports.on)) (λ off.
@@ -134,12 +134,12 @@ module _ (heads : Heads) (differ : EachTwo HasOther heads.profiles) (busy : List
       let one_is : one ≡ head = cc in
       true≢false (sym keeps ∙ sym (ap keeps_enabled one_is) ∙ kept)))))
 
-  disabling_spares : (who : Who) (refresh : Bool) → (disabling heads busy who refresh).entry ≡ Some entry → Touches entry → ⊥
+  disabling_spares : (who : Who) (refresh : Bool) → (disabling_named heads busy who refresh).entry ≡ Some entry → Touches entry → ⊥
   disabling_spares who refresh =
       past_profile Spares entry 0xBF32 (disabling_head heads busy refresh) (profile_named who heads.profiles) (λ one found.
-      disabling_on_spares one refresh (port_of one.number heads.ports.on) (found_head (is_named who) one heads.profiles differ found))
+      disabling_on_spares one refresh (port_of one.number heads.ports.on) (found_head (is_identified who) one heads.profiles differ found))
 
-  deleting_spares : (who : Who) → (deleting heads who).entry ≡ Some entry → Touches entry → ⊥
+  deleting_spares : (who : Who) → (deleting_named heads who).entry ≡ Some entry → Touches entry → ⊥
   deleting_spares who =
       past_profile Spares entry 0xBF33 (deleting_head heads) (profile_named who heads.profiles) (λ one found.
       past Spares entry 0xBF33 2 _ (is_some (port_of one.number heads.ports.on)) (λ off.

@@ -12,8 +12,8 @@ use Rattle.isdr_commands.proofs.ResetLemmas.{free_stays, moves_each, moves_once,
 use Rattle.isdr_commands.specs.Ascending.{ascending}
 use Rattle.isdr_commands.specs.Decision.{accepted, refused_with}
 use Rattle.isdr_commands.specs.Laws.{AreMoves, IsAsked, IsCarriedOut}
-use Rattle.isdr_commands.specs.Managed.{is_busy, is_named, lacks_room, profile_named}
-use Rattle.isdr_commands.specs.MemoryReset.{freed_from, leaving, memory_reset, numbers_reset}
+use Rattle.isdr_commands.specs.Managed.{is_busy, is_identified, lacks_room, profile_named}
+use Rattle.isdr_commands.specs.MemoryReset.{freed_from, number_leaving, memory_reset, numbers_reset}
 use Rattle.isdr_commands.specs.NotificationSent.{note_sent}
 use Rattle.isdr_commands.specs.Request.{managed}
 use Rattle.isdr_commands.specs.SetNickname.{naming, naming_head}
@@ -32,7 +32,7 @@ use Rattle.record_codec.specs.declared.record.Record.TheVariants as records
 
 -- a port that no move names
 module _ (numbers : List ℕ) (ports : Ports) (port : ℕ) where
-  stays_at : (place : Option (Option ℕ)) → slice_get ports.on port ≡ place → ((here : Option ℕ) → place ≡ Some here → leaving numbers here ≡ None)
+  stays_at : (place : Option (Option ℕ)) → slice_get ports.on port ≡ place → ((here : Option ℕ) → place ≡ Some here → number_leaving numbers here ≡ None)
       → slice_get (unbound_each numbers ports).on port ≡ place
   stays_at None e stays = none_stays numbers ports port e
   stays_at (Some None) e stays = free_stays numbers ports port e
@@ -85,7 +85,7 @@ module _ (durable : Durable) (are : IsDurable durable) (busy : List Bool) (entry
       past_profile Carries entry 0xBF29 (naming_head name) (profile_named (Iccid iccid) durable.heads.profiles) (λ head found.
       carried durable 0xBF29 (records.Name head.number name) [] entry (record {
         fits = (fits_where durable (records.Name head.number name) are).1 (record {
-          heads = (found_held (is_named (Iccid iccid)) head durable.heads.profiles found, few);
+          heads = (found_held (is_identified (Iccid iccid)) head durable.heads.profiles found, few);
           content = tt;
         });
         moves = record { each = tt; once = tt; others = λ port unmoved. refl };

@@ -12,7 +12,7 @@ use Rattle.isdr_commands.specs.Decision.{accepted, refused_with}
 use Rattle.isdr_commands.specs.DeleteProfile.{deleting_head}
 use Rattle.isdr_commands.specs.DisableProfile.{disabling_head, disabling_on}
 use Rattle.isdr_commands.specs.EnableProfile.{enabling_head, enabling_on}
-use Rattle.isdr_commands.specs.Managed.{head_on, is_busy, is_kept, keeps_enabled, keeps_held, lacks_room, profile_named, standing_on}
+use Rattle.isdr_commands.specs.Managed.{head_on, is_busy, is_kept, keeps_enabled, keeps_held, lacks_room, profile_named, number_on}
 use Rattle.isdr_commands.specs.MemoryReset.{freed_from, numbers_reset}
 use Rattle.isdr_commands.specs.Request.{managed}
 use Rattle.isdr_commands.specs.SetNickname.{naming_head}
@@ -43,7 +43,7 @@ module _ (heads : Heads) (busy : List Bool) (note : Note) (entry : Record) where
       past Leaves entry 0xBF31 3 _ (is_kept (head_on port heads)) (λ kept.
       past Leaves entry 0xBF31 5 _ (is_busy busy port) (λ quiet.
       past Leaves entry 0xBF31 127 _ (lacks_room heads.notes (count_where Disable (head_on port heads) + count_of Enable head)) (λ room.
-      without Takes (records.Bind head.number port (standing_on port heads)) entry (λ none. none))))
+      without Takes (records.Bind head.number port (number_on port heads)) entry (λ none. none))))
 
   disabling_leaves : (refresh : Bool) (head : ProfileHead) (place : Option ℕ) → (disabling_on heads busy refresh head place).entry ≡ Some entry → Takes entry → ⊥
   disabling_leaves refresh head None = λ e. absurd cc

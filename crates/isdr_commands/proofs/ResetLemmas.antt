@@ -9,7 +9,7 @@ use Rattle.isdr_commands.proofs.FoundLemmas.{HasOther}
 use Rattle.isdr_commands.proofs.MoveLemmas.{freed_other}
 use Rattle.isdr_commands.specs.Ascending.{ascending, inserted}
 use Rattle.isdr_commands.specs.Laws.{IsMoved}
-use Rattle.isdr_commands.specs.MemoryReset.{freed_before, freed_from, is_reset, leaving, numbers_reset}
+use Rattle.isdr_commands.specs.MemoryReset.{freed_before, freed_from, is_reset, number_leaving, numbers_reset}
 use Rattle.isdr_commands.specs.declared.moves.Move.{Move}
 use Rattle.plain_lists.specs.EachTwo.{EachTwo}
 use Rattle.port_table.specs.Ports.{freed, unbound}
@@ -131,7 +131,7 @@ module _ (profile : ℕ) where
       in step (nat_eq number profile) refl among
 
 -- a place whose profile leaves
-leaving_is : (numbers : List ℕ) (place : Option ℕ) (profile : ℕ) → leaving numbers place ≡ Some profile → (place ≡ Some profile) × (is_among numbers profile ≡ true)
+leaving_is : (numbers : List ℕ) (place : Option ℕ) (profile : ℕ) → number_leaving numbers place ≡ Some profile → (place ≡ Some profile) × (is_among numbers profile ≡ true)
 leaving_is numbers None profile e = absurd cc
 leaving_is numbers (Some one) profile e =
     let step : (b : Bool) → is_among numbers one ≡ b → cond b (Some one) None ≡ Some profile → (Some one ≡ Some profile) × (is_among numbers profile ≡ true)
@@ -142,7 +142,7 @@ leaving_is numbers (Some one) profile e =
     in step (is_among numbers one) refl e
 
 -- a place whose profile doesn't
-pub staying_is : (numbers : List ℕ) (profile : ℕ) → leaving numbers (Some profile) ≡ None → is_among numbers profile ≡ false
+pub staying_is : (numbers : List ℕ) (profile : ℕ) → number_leaving numbers (Some profile) ≡ None → is_among numbers profile ≡ false
 staying_is numbers profile e =
     let step : (b : Bool) → is_among numbers profile ≡ b → cond b (Some profile) None ≡ None → is_among numbers profile ≡ false
     = λ b. elim b as (λ b. is_among numbers profile ≡ b → cond b (Some profile) None ≡ None → is_among numbers profile ≡ false) [
@@ -161,7 +161,7 @@ module _ (numbers : List ℕ) where
 
   ports_from : (port : ℕ) (places : List (Option ℕ)) → AllByRecursion (λ move. port ≤ move.port) (freed_from port numbers places)
   ports_from port [] = tt
-  ports_from port (place ∷ places) = ports_before port (leaving numbers place) (freed_from (port + 1) numbers places) (ports_from (port + 1) places)
+  ports_from port (place ∷ places) = ports_before port (number_leaving numbers place) (freed_from (port + 1) numbers places) (ports_from (port + 1) places)
 
   -- each port once
   once_before : (port : ℕ) (left : Option ℕ) (moves : List Move) → AllByRecursion (λ move. port + 1 ≤ move.port) moves
@@ -173,7 +173,7 @@ module _ (numbers : List ℕ) where
   pub moves_once : (port : ℕ) (places : List (Option ℕ)) → EachTwo (λ one other. one.port ≢ other.port) (freed_from port numbers places)
   moves_once port [] = tt
   moves_once port (place ∷ places) =
-      once_before port (leaving numbers place) (freed_from (port + 1) numbers places) (ports_from (port + 1) places) (moves_once (port + 1) places)
+      once_before port (number_leaving numbers place) (freed_from (port + 1) numbers places) (ports_from (port + 1) places) (moves_once (port + 1) places)
 
   module _ (before after : Ports)
       (leaves : (port profile : ℕ) → slice_get before.on port ≡ Some (Some profile) → is_among numbers profile ≡ true → slice_get after.on port ≡ Some None) where
@@ -191,7 +191,7 @@ module _ (numbers : List ℕ) where
     moves_each port (place ∷ places) at =
         let zero_on : port + 0 ≡ port = omega arith in
         let here : Some place ≡ slice_get before.on port = at 0 ∙ ap (slice_get before.on) zero_on in
-        moved_before port (leaving numbers place) (freed_from (port + 1) numbers places)
+        moved_before port (number_leaving numbers place) (freed_from (port + 1) numbers places)
         (λ profile left.
         let is = leaving_is numbers place profile left in
         (sym here ∙ ap (λ (o : Option ℕ). Some o) is.0, is.1))
@@ -204,13 +204,13 @@ module _ (numbers : List ℕ) where
   stays_before port k (Some profile) moves each = (each.1, λ same. absurd (each.0 same))
 
   pub others_stay : (port k : ℕ) (places : List (Option ℕ)) (place : Option ℕ) → AllByRecursion (λ move. move.port ≢ port + k) (freed_from port numbers places)
-      → slice_get places k ≡ Some place → leaving numbers place ≡ None
+      → slice_get places k ≡ Some place → number_leaving numbers place ≡ None
   others_stay port k [] place each e = absurd cc
   others_stay port zero (first ∷ places) place each e =
       let same : first ≡ place = cc in
-      let none = (stays_before port (port + 0) (leaving numbers first) (freed_from (port + 1) numbers places) each).1 (omega arith) in
-      subst (λ (o : Option ℕ). leaving numbers o ≡ None) same none
+      let none = (stays_before port (port + 0) (number_leaving numbers first) (freed_from (port + 1) numbers places) each).1 (omega arith) in
+      subst (λ (o : Option ℕ). number_leaving numbers o ≡ None) same none
   others_stay port (suc k) (first ∷ places) place each e =
       let on : port + suc k ≡ (port + 1) + k = omega arith in
-      let rest = (stays_before port (port + suc k) (leaving numbers first) (freed_from (port + 1) numbers places) each).0 in
+      let rest = (stays_before port (port + suc k) (number_leaving numbers first) (freed_from (port + 1) numbers places) each).0 in
       others_stay (port + 1) k places place (subst (λ (n : ℕ). AllByRecursion (λ move. move.port ≢ n) (freed_from (port + 1) numbers places)) on rest) e

@@ -20,5 +20,5 @@ deleting_head heads head =
     else accepted 0xBF33 (Gone (head.number ∷ [])) []))
 
 -- 1 not found
-abbrev pub deleting : Heads → Who → Decision
-deleting heads who = at_profile 0xBF33 (profile_named who heads.profiles) (deleting_head heads)
+abbrev pub deleting_named : Heads → Who → Decision
+deleting_named heads who = at_profile 0xBF33 (profile_named who heads.profiles) (deleting_head heads)

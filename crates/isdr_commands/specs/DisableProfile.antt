@@ -31,6 +31,6 @@ disabling_head heads busy refresh head =
     disabling_on heads busy refresh head (port_of head.number heads.ports.on)
 
 -- 1 not found
-abbrev pub disabling : Heads → List Bool → Who → Bool → Decision
-disabling heads busy who refresh =
+abbrev pub disabling_named : Heads → List Bool → Who → Bool → Decision
+disabling_named heads busy who refresh =
     at_profile 0xBF32 (profile_named who heads.profiles) (disabling_head heads busy refresh)

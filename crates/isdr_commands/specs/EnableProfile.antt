@@ -2,7 +2,7 @@
 use Rattle.std.specs.Prelude.{ℕ, Bool, ◌+◌, List, [], ◌∷◌, Option, Some, Result, Ok, Err, is_some, if◌then◌else◌}
 use Rattle.isdr_codec.specs.declared.request.Who.{Who}
 use Rattle.isdr_commands.specs.Decision.{accepted, at_profile, refused_with}
-use Rattle.isdr_commands.specs.Managed.{head_on, is_busy, is_kept, lacks_room, profile_named, standing_on}
+use Rattle.isdr_commands.specs.Managed.{head_on, is_busy, is_kept, lacks_room, profile_named, number_on}
 use Rattle.isdr_commands.specs.declared.decision.Decision.{Decision}
 use Rattle.notify_list.specs.declared.note.Operation.TheVariants.{Disable, Enable}
 use Rattle.port_table.specs.PortOf.{port_of}
@@ -22,9 +22,9 @@ enabling_on heads busy refresh head (Ok port) =
     else (if is_busy busy port then refused_with 0xBF31 5
     else (if lacks_room heads.notes (count_where Disable (head_on port heads) + count_of Enable head)
     then refused_with 0xBF31 127
-    else accepted 0xBF31 (Bind head.number port (standing_on port heads)) (record {
+    else accepted 0xBF31 (Bind head.number port (number_on port heads)) (record {
       port = port;
-      leaves = standing_on port heads;
+      leaves = number_on port heads;
       comes = Some head.number;
       refresh = refresh;
     } ∷ [])))
@@ -36,6 +36,6 @@ enabling_head heads busy came refresh given head =
     else enabling_on heads busy refresh head (target_port heads.ports came given)
 
 -- 1 not found
-abbrev pub enabling : Heads → List Bool → ℕ → Who → Bool → Option ℕ → Decision
-enabling heads busy came who refresh given = at_profile 0xBF31 (profile_named who heads.profiles)
+abbrev pub enabling_named : Heads → List Bool → ℕ → Who → Bool → Option ℕ → Decision
+enabling_named heads busy came who refresh given = at_profile 0xBF31 (profile_named who heads.profiles)
     (enabling_head heads busy came refresh given)

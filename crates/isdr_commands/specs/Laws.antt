@@ -55,7 +55,7 @@ abbrev pub Displaces : Decision → ℕ → Type 0
 Displaces decision number = Any (λ (move : Move). move.leaves ≡ Some number) decision.moves
 
 -- the profile has the content, the head and the port that it had before
-pub record LeavesAlone (before after : Durable) (number : ℕ) : Type 0 where
+pub record LeavesProfile (before after : Durable) (number : ℕ) : Type 0 where
   pub content : held_content number after ≡ held_content number before
   pub head : head_of number after.heads.profiles ≡ head_of number before.heads.profiles
   pub port : (port : ℕ) → StandsOn after.heads.ports number port

@@ -14,22 +14,22 @@ aid_of number =
     0xA0 ∷ 0x00 ∷ 0x00 ∷ 0x05 ∷ 0x59 ∷ 0x10 ∷ 0x10 ∷ 0xFF ∷ 0xFF ∷ 0xFF ∷ 0xFF ∷ 0x89 ∷ 0x00 ∷ 0x00
     ∷ number / 256 ∷ number % 256 ∷ []
 
-abbrev pub is_named : Who → ProfileHead → Bool
-is_named (Aid aid) head = bytes_eq aid (aid_of head.number)
-is_named (Iccid iccid) head = bytes_eq iccid head.iccid
+abbrev pub is_identified : Who → ProfileHead → Bool
+is_identified (Aid aid) head = bytes_eq aid (aid_of head.number)
+is_identified (Iccid iccid) head = bytes_eq iccid head.iccid
 
 -- the profile that a request names
 abbrev pub profile_named : Who → List ProfileHead → Option ProfileHead
-profile_named who profiles = find (is_named who) profiles
+profile_named who profiles = find (is_identified who) profiles
 
 -- the number of the profile on a port
-abbrev pub standing_on : ℕ → Heads → Option ℕ
-standing_on port heads = option_and_then (λ place. place) (slice_get heads.ports.on port)
+abbrev pub number_on : ℕ → Heads → Option ℕ
+number_on port heads = option_and_then (λ place. place) (slice_get heads.ports.on port)
 
 -- the profile on a port
 abbrev pub head_on : ℕ → Heads → Option ProfileHead
 head_on port heads =
-    option_and_then (λ number. head_of number heads.profiles) (standing_on port heads)
+    option_and_then (λ number. head_of number heads.profiles) (number_on port heads)
 
 -- PPR1: not to be disabled
 abbrev pub keeps_enabled : ProfileHead → Bool

@@ -23,9 +23,9 @@ numbers_reset operational test profiles =
     map (λ head. head.number) (filter (is_reset operational test) profiles)
 
 -- the profile at a place, where it is one of these
-abbrev pub leaving : List ℕ → Option ℕ → Option ℕ
-leaving numbers None = None
-leaving numbers (Some profile) = if is_among numbers profile then Some profile else None
+abbrev pub number_leaving : List ℕ → Option ℕ → Option ℕ
+number_leaving numbers None = None
+number_leaving numbers (Some profile) = if is_among numbers profile then Some profile else None
 
 -- a port whose profile leaves, announcing a REFRESH, before the other moves
 abbrev pub freed_before : ℕ → Option ℕ → List Move → List Move
@@ -37,7 +37,7 @@ freed_before port (Some profile) moves =
 abbrev pub freed_from : ℕ → List ℕ → List (Option ℕ) → List Move
 freed_from port numbers [] = []
 freed_from port numbers (place ∷ places) =
-    freed_before port (leaving numbers place) (freed_from (port + 1) numbers places)
+    freed_before port (number_leaving numbers place) (freed_from (port + 1) numbers places)
 
 -- 1 there is none of them, 5 the REFRESH of one of their ports isn't over, 127 no room for the
 -- notifications; else they all go, enabled ones and those with policy rules included

@@ -4,7 +4,7 @@ use Rattle.isdr_codec.specs.declared.request.Search.{Search}
 use Rattle.isdr_codec.specs.declared.request.Search.TheVariants.{All, Class, One}
 use Rattle.isdr_commands.specs.Ascending.{ascending}
 use Rattle.isdr_commands.specs.Decision.{told}
-use Rattle.isdr_commands.specs.Managed.{is_named}
+use Rattle.isdr_commands.specs.Managed.{is_identified}
 use Rattle.isdr_commands.specs.declared.decision.Decision.{Decision}
 use Rattle.isdr_commands.specs.declared.reply.Reply.TheVariants.{Infos}
 use Rattle.record_codec.specs.declared.durable.Heads.{Heads}
@@ -12,7 +12,7 @@ use Rattle.record_codec.specs.declared.profile.ProfileHead.{ProfileHead}
 
 abbrev pub is_searched : Search → ProfileHead → Bool
 is_searched All head = true
-is_searched (One who) head = is_named who head
+is_searched (One who) head = is_identified who head
 is_searched (Class class) head = head.class == class
 
 abbrev pub numbers_searched : Search → List ProfileHead → List ℕ

@@ -3,9 +3,9 @@
 use Rattle.std.specs.Prelude.{ℕ, Bool, List}
 use Rattle.isdr_codec.specs.declared.request.Request.{Request}
 use Rattle.isdr_codec.specs.declared.request.Request.TheVariants.{Info, Nickname, Enable, Disable, Delete, MemoryReset, Eid, NoteList, NoteSent}
-use Rattle.isdr_commands.specs.DeleteProfile.{deleting}
-use Rattle.isdr_commands.specs.DisableProfile.{disabling}
-use Rattle.isdr_commands.specs.EnableProfile.{enabling}
+use Rattle.isdr_commands.specs.DeleteProfile.{deleting_named}
+use Rattle.isdr_commands.specs.DisableProfile.{disabling_named}
+use Rattle.isdr_commands.specs.EnableProfile.{enabling_named}
 use Rattle.isdr_commands.specs.GetEid.{eid_told}
 use Rattle.isdr_commands.specs.ListNotification.{notes_told}
 use Rattle.isdr_commands.specs.MemoryReset.{memory_reset}
@@ -18,9 +18,9 @@ use Rattle.record_codec.specs.declared.durable.Heads.{Heads}
 abbrev pub managed : Heads → List Bool → ℕ → Request → Decision
 managed heads busy came (Info search fields) = profiles_info heads search fields
 managed heads busy came (Nickname iccid name) = naming heads iccid name
-managed heads busy came (Enable who refresh port) = enabling heads busy came who refresh port
-managed heads busy came (Disable who refresh) = disabling heads busy who refresh
-managed heads busy came (Delete who) = deleting heads who
+managed heads busy came (Enable who refresh port) = enabling_named heads busy came who refresh port
+managed heads busy came (Disable who refresh) = disabling_named heads busy who refresh
+managed heads busy came (Delete who) = deleting_named heads who
 managed heads busy came (MemoryReset operational test) =
     memory_reset heads busy operational test
 managed heads busy came Eid = eid_told

@@ -1,5 +1,5 @@
 ghost use Rattle.std.specs.Prelude.{◌≡◌};
-ghost use Rattle.isdr_commands.specs.DeleteProfile.{deleting, deleting_head};
+ghost use Rattle.isdr_commands.specs.DeleteProfile.{deleting_named, deleting_head};
 
 use crate::counts::{count_of, lacks_room};
 use crate::naming::{keeps_held, profile_named};
@@ -32,7 +32,7 @@ fn delete(heads: &Heads, head: &ProfileHead) -> Decision
 /// in this order; else 0, and the profile goes. No port moves. It looks at each profile and each
 /// port once.
 pub fn delete_profile(heads: &Heads, who: &Who) -> Decision
-    ensures { result ≡ deleting heads.now who.now }
+    ensures { result ≡ deleting_named heads.now who.now }
 {
     match profile_named(who, heads.profiles.as_slice()) {
         Some(head) => delete(heads, head),

@@ -1,5 +1,5 @@
 ghost use Rattle.std.specs.Prelude.{◌≡◌};
-ghost use Rattle.isdr_commands.specs.DisableProfile.{disabling, disabling_head, disabling_on};
+ghost use Rattle.isdr_commands.specs.DisableProfile.{disabling_named, disabling_head, disabling_on};
 
 use crate::counts::{count_of, lacks_room};
 use crate::naming::{is_busy, keeps_enabled, profile_named};
@@ -50,7 +50,7 @@ fn disable(
 /// leaves its port. `busy` says of each port, from 0, whether its REFRESH isn't over. It looks at
 /// each profile and each port once.
 pub fn disable_profile(heads: &Heads, busy: &[bool; 8], who: &Who, refresh: bool) -> Decision
-    ensures { result ≡ disabling heads.now busy.now who.now refresh }
+    ensures { result ≡ disabling_named heads.now busy.now who.now refresh }
 {
     match profile_named(who, heads.profiles.as_slice()) {
         Some(head) => disable(heads, busy, refresh, head, heads.ports.port_of(head.number)),

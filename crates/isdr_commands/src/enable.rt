@@ -1,8 +1,8 @@
 ghost use Rattle.std.specs.Prelude.{◌≡◌, ◌≤◌, ◌<◌, length};
-ghost use Rattle.isdr_commands.specs.EnableProfile.{enabling, enabling_head, enabling_on};
+ghost use Rattle.isdr_commands.specs.EnableProfile.{enabling_named, enabling_head, enabling_on};
 
 use crate::counts::{count_of, lacks_room};
-use crate::naming::{count_on, is_busy, is_kept_on, profile_named, standing_on};
+use crate::naming::{count_on, is_busy, is_kept_on, number_on, profile_named};
 use crate::refusal::Refusal;
 use crate::{Decision, Move};
 use isdr_codec::Who;
@@ -35,7 +35,7 @@ fn enable_on(
     if lacks_room(&heads.notes, more) {
         return Decision::refused(TAG, Refusal::NoRoom);
     }
-    let displaced = standing_on(port, heads);
+    let displaced = number_on(port, heads);
     let entry = Record::Bind {
         profile: head.number,
         port,
@@ -87,7 +87,7 @@ pub fn enable_profile(
     requires places { length heads.now.ports.on ≡ heads.now.ports.count }
     requires few { heads.now.ports.count ≤ 8 }
     requires came { came < heads.now.ports.count }
-    ensures { result ≡ enabling heads.now busy.now came who.now refresh given }
+    ensures { result ≡ enabling_named heads.now busy.now came who.now refresh given }
 {
     match profile_named(who, heads.profiles.as_slice()) {
         Some(head) => enable(heads, busy, came, refresh, given, head),

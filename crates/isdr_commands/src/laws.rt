@@ -2,7 +2,7 @@ ghost use Rattle.std.specs.Prelude.{◌≡◌, ◌≢◌, ℕ, Bool, true, List,
 ghost use Rattle.file_rows.specs.Content.{IsValid};
 ghost use Rattle.isdr_codec.specs.declared.request.Request.{Request};
 ghost use Rattle.isdr_commands.specs.Installation.{install_refusal};
-ghost use Rattle.isdr_commands.specs.Laws.{Displaces, IsAsked, IsCarriedOut, LeavesAlone, NamesProfile, Resets};
+ghost use Rattle.isdr_commands.specs.Laws.{Displaces, IsAsked, IsCarriedOut, LeavesProfile, NamesProfile, Resets};
 ghost use Rattle.isdr_commands.specs.Managed.{keeps_enabled};
 ghost use Rattle.isdr_commands.specs.Request.{managed};
 ghost use Rattle.notify_list.specs.declared.note.Note.{Note};
@@ -73,5 +73,5 @@ pub fn requests_leave_other_profiles_alone()
         → ¬ NamesProfile durable.heads.profiles request number
         → ¬ Displaces (managed durable.heads busy came request) number
         → (managed durable.heads busy came request).entry ≡ Some entry
-        → LeavesAlone durable (apply durable entry) number }
+        → LeavesProfile durable (apply durable entry) number }
 {}

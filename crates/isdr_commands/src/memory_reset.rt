@@ -1,7 +1,7 @@
 ghost use Rattle.std.specs.Prelude.{◌≡◌, ◌≤◌, length};
 ghost use Rattle.std.specs.List.{list_any};
 ghost use Rattle.isdr_commands.specs.Managed.{is_busy};
-ghost use Rattle.isdr_commands.specs.MemoryReset.{freed_from, is_reset, leaving, memory_reset, numbers_reset, resetting, resetting_all};
+ghost use Rattle.isdr_commands.specs.MemoryReset.{freed_from, is_reset, number_leaving, memory_reset, numbers_reset, resetting, resetting_all};
 ghost use Rattle.record_codec.specs.Gone.{is_among};
 
 use crate::ascending::ascending;
@@ -46,8 +46,8 @@ fn is_among(number: u16, numbers: &[u16]) -> bool
 }
 
 // The number at a place, where it is one of these.
-fn leaving(place: Option<u16>, numbers: &[u16]) -> Option<u16>
-    ensures { result ≡ leaving numbers.now place }
+fn number_leaving(place: Option<u16>, numbers: &[u16]) -> Option<u16>
+    ensures { result ≡ number_leaving numbers.now place }
 {
     match place {
         Some(profile) if is_among(profile, numbers) => Some(profile),
@@ -62,7 +62,7 @@ fn freed(numbers: &[u16], on: &[Option<u16>]) -> Moves
 {
     let mut moves = Moves::new();
     for (port, place) in on.iter().enumerate() {
-        if let Some(profile) = leaving(*place, numbers) {
+        if let Some(profile) = number_leaving(*place, numbers) {
             moves.push(Move {
                 port: port as u8,
                 leaves: Some(profile),

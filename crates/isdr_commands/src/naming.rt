@@ -1,7 +1,7 @@
 // The profiles that requests name, and those on ports.
 ghost use Rattle.std.specs.Prelude.{◌≡◌, ◌≤◌, None, Some, IfNone, IfSome};
 ghost use Rattle.std.specs.Str.{bytes_eq};
-ghost use Rattle.isdr_commands.specs.Managed.{aid_of, head_on, is_busy, is_kept, is_named, keeps_enabled, keeps_held, profile_named, standing_on};
+ghost use Rattle.isdr_commands.specs.Managed.{aid_of, head_on, is_busy, is_kept, is_identified, keeps_enabled, keeps_held, profile_named, number_on};
 ghost use Rattle.record_codec.specs.Heads.{head_of};
 ghost use Rattle.record_codec.specs.Noted.{count_where};
 
@@ -41,8 +41,8 @@ pub fn are_same(one: &[u8], other: &[u8]) -> bool
 }
 
 // Whether a request names the profile.
-pub fn is_named(who: &Who, head: &ProfileHead) -> bool
-    ensures { result ≡ is_named who.now head.now }
+pub fn is_identified(who: &Who, head: &ProfileHead) -> bool
+    ensures { result ≡ is_identified who.now head.now }
 {
     match who {
         Who::Aid(aid) => are_same(aid, &aid_of(head.number)),
@@ -56,7 +56,7 @@ pub fn profile_named<'a>(who: &Who, profiles: &'a [ProfileHead]) -> Option<&'a P
     ensures none { IfNone result (profile_named who.now profiles.now ≡ None) }
 {
     for head in profiles {
-        if is_named(who, head) {
+        if is_identified(who, head) {
             return Some(head);
         }
     }
@@ -77,8 +77,8 @@ pub fn head_of(number: u16, profiles: &[ProfileHead]) -> Option<&ProfileHead>
 }
 
 // The number of the profile on a port.
-pub fn standing_on(port: u8, heads: &Heads) -> Option<u16>
-    ensures { result ≡ standing_on port heads.now }
+pub fn number_on(port: u8, heads: &Heads) -> Option<u16>
+    ensures { result ≡ number_on port heads.now }
 {
     match heads.ports.on.as_slice().get(usize::from(port)) {
         Some(place) => *place,
@@ -91,7 +91,7 @@ fn head_on(port: u8, heads: &Heads) -> Option<&ProfileHead>
     ensures found { IfSome result (λ head. head_on port heads.now ≡ Some head.now) }
     ensures none { IfNone result (head_on port heads.now ≡ None) }
 {
-    match standing_on(port, heads) {
+    match number_on(port, heads) {
         Some(number) => head_of(number, heads.profiles.as_slice()),
         None => None,
     }

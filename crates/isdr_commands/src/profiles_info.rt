@@ -2,7 +2,7 @@ ghost use Rattle.std.specs.Prelude.{◌≡◌, ◌≤◌, length};
 ghost use Rattle.isdr_commands.specs.ProfilesInfo.{is_searched, numbers_searched, profiles_info};
 
 use crate::ascending::ascending;
-use crate::naming::is_named;
+use crate::naming::is_identified;
 use crate::{Decision, Reply};
 use isdr_codec::Search;
 use record_codec::{Heads, Numbers, ProfileHead};
@@ -12,7 +12,7 @@ fn is_searched(search: &Search, head: &ProfileHead) -> bool
 {
     match search {
         Search::All => true,
-        Search::One(who) => is_named(who, head),
+        Search::One(who) => is_identified(who, head),
         Search::Class(class) => head.class == *class,
     }
 }
