@@ -1,0 +1,11 @@
+pub mod AloneLemmas
+pub mod CarryLemmas
+pub mod FoundLemmas
+pub mod InstallLemmas
+pub mod KeptLemmas
+pub mod ManagedLemmas
+pub mod MoveLemmas
+pub mod NoteLemmas
+pub mod PassLemmas
+pub mod RefusedLemmas
+pub mod ResetLemmas

@@ -1,0 +1,15 @@
+pub mod Ascending
+pub mod Decision
+pub mod DeleteProfile
+pub mod DisableProfile
+pub mod EnableProfile
+pub mod GetEid
+pub mod Installation
+pub mod Laws
+pub mod ListNotification
+pub mod Managed
+pub mod MemoryReset
+pub mod NotificationSent
+pub mod ProfilesInfo
+pub mod Request
+pub mod SetNickname
