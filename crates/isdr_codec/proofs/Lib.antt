@@ -1,3 +1,4 @@
 pub mod FieldLemmas
 pub mod TagLemmas
+pub mod TargetLemmas
 pub mod TextLemmas

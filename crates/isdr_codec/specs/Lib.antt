@@ -5,6 +5,7 @@ pub mod Fields
 pub mod GetEid
 pub mod ListNotification
 pub mod MemoryReset
+pub mod Metadata
 pub mod NotificationSent
 pub mod ProfilesInfo
 pub mod Request
