@@ -6,8 +6,12 @@ pub mod GetEid
 pub mod ListNotification
 pub mod MemoryReset
 pub mod Metadata
+pub mod NoteEntry
 pub mod NotificationSent
+pub mod Profile
+pub mod ProfileEntry
 pub mod ProfilesInfo
+pub mod Reply
 pub mod Request
 pub mod Search
 pub mod SetNickname

@@ -11,6 +11,9 @@ const PROVIDER: &[u8] = b"\x91\x02Op";
 
 const NAME: &[u8] = b"\x92\x02P1";
 
+// All operations.
+const OPERATIONS: &[u8] = b"\x80\x02\x04\xF0";
+
 // An entry of B6, with all operations.
 const ENTRY: &[u8] = b"\x30\x0F\x80\x02\x04\xF0\x81\x09smdp.test";
 
@@ -60,8 +63,10 @@ fn target(operations: u8, address: &str) -> NoteTarget {
 fn metadata_of_the_first_sample_profile_is_read(rt: HostRuntime) {
     let bytes = b"\xBF\x25\x2A\x5A\x0A\x98\x94\0\0\0\0\0\0\0\xF1\x91\x02\x4F\x70\x92\x02\x50\x31\
         \x95\x01\x02\xB6\x11\x30\x0F\x80\x02\x04\xF0\x81\x09\x73\x6D\x64\x70\x2E\x74\x65\x73\x74";
+    let mut targets = Targets::new();
+    targets.push(target(0x0F, "smdp.test"));
     let mut expected = head();
-    expected.targets.push(target(0x0F, "smdp.test"));
+    expected.targets = targets;
     assert!(rt; read_metadata(bytes) == Ok(expected));
 }
 
@@ -93,12 +98,13 @@ fn fields_that_may_be_missing_are_read(rt: HostRuntime) -> Result<(), Fail> {
 
 #[test]
 fn entries_are_read_in_their_order(rt: HostRuntime) -> Result<(), Fail> {
-    let entries: &[u8] = b"\xB6\x2A\x30\x0A\x81\x04!a~b\x80\x02\x04\x40\x30\x0F\x80\x02\x04\x30\
-        \x90\x01\x07\x81\x06second\x30\x0B\x80\x01\x00\x81\x06\x6E\x6F\x74\x68\x65\x72";
+    let entries: &[u8] = b"\xB6\x1C\x30\x0A\x81\x04!a~b\x80\x02\x04\x40\x30\x0E\x80\x01\x00\
+        \x90\x01\x07\x81\x06\x6E\x6F\x74\x68\x65\x72";
+    let mut targets = Targets::new();
+    targets.push(target(0x02, "!a~b"));
+    targets.push(target(0x00, "nother"));
     let mut expected = head();
-    expected.targets.push(target(0x02, "!a~b"));
-    expected.targets.push(target(0x0C, "second"));
-    expected.targets.push(target(0x00, "nother"));
+    expected.targets = targets;
     let bytes = metadata(rt.alloc(), &[entries, NAME, ICCID, PROVIDER])?;
     assert!(rt; read_metadata(&bytes) == Ok(expected));
     Ok(())
@@ -131,34 +137,40 @@ fn eight_entries_are_taken_and_nine_are_not(rt: HostRuntime) -> Result<(), Fail>
     Ok(())
 }
 
+// Whether an address of so many letters is taken.
+fn takes_address(alloc: Global, count: usize) -> Result<bool, AllocError> {
+    let letters = vec![in alloc; b'a'; count]?;
+    let address = object(alloc, &[0x81], &[&letters])?;
+    let entry = object(alloc, &[0x30], &[OPERATIONS, &address])?;
+    let entries = object(alloc, &[0xB6], &[&entry])?;
+    let bytes = metadata(alloc, &[ICCID, PROVIDER, NAME, &entries])?;
+    Ok(read_metadata(&bytes).is_ok())
+}
+
 #[test]
 fn addresses_have_one_to_64_bytes(rt: HostRuntime) -> Result<(), Fail> {
-    let operations: &[u8] = b"\x80\x02\x04\xF0";
-    for (count, is_taken) in [(0, false), (1, true), (64, true), (65, false)] {
-        let letters = vec![in rt.alloc(); b'a'; count]?;
-        let address = object(rt.alloc(), &[0x81], &[&letters])?;
-        let entry = object(rt.alloc(), &[0x30], &[operations, &address])?;
-        let entries = object(rt.alloc(), &[0xB6], &[&entry])?;
-        let bytes = metadata(rt.alloc(), &[ICCID, PROVIDER, NAME, &entries])?;
-        assert!(rt; read_metadata(&bytes).is_ok() == is_taken, "{count}");
-    }
+    assert!(rt; !takes_address(rt.alloc(), 0)?);
+    assert!(rt; takes_address(rt.alloc(), 1)?);
+    assert!(rt; takes_address(rt.alloc(), 64)?);
+    assert!(rt; !takes_address(rt.alloc(), 65)?);
     Ok(())
+}
+
+// Whether names of so many letters are taken, the provider's and the profile's.
+fn takes_names(alloc: Global, provider: usize, name: usize) -> Result<bool, AllocError> {
+    let provider = vec![in alloc; b'a'; provider]?;
+    let provider = object(alloc, &[0x91], &[&provider])?;
+    let name = vec![in alloc; b'a'; name]?;
+    let name = object(alloc, &[0x92], &[&name])?;
+    let bytes = metadata(alloc, &[ICCID, &provider, &name])?;
+    Ok(read_metadata(&bytes).is_ok())
 }
 
 #[test]
 fn names_have_at_most_32_and_64_bytes(rt: HostRuntime) -> Result<(), Fail> {
-    for (tag, count, is_taken) in [
-        (0x91, 32, true),
-        (0x91, 33, false),
-        (0x92, 64, true),
-        (0x92, 65, false),
-    ] {
-        let other = if tag == 0x91 { NAME } else { PROVIDER };
-        let letters = vec![in rt.alloc(); b'a'; count]?;
-        let field = object(rt.alloc(), &[tag], &[&letters])?;
-        let bytes = metadata(rt.alloc(), &[ICCID, other, &field])?;
-        assert!(rt; read_metadata(&bytes).is_ok() == is_taken, "{tag} {count}");
-    }
+    assert!(rt; takes_names(rt.alloc(), 32, 64)?);
+    assert!(rt; !takes_names(rt.alloc(), 33, 64)?);
+    assert!(rt; !takes_names(rt.alloc(), 32, 65)?);
     Ok(())
 }
 
