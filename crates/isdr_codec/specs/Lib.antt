@@ -5,8 +5,13 @@ pub mod Fields
 pub mod GetEid
 pub mod ListNotification
 pub mod MemoryReset
+pub mod Metadata
+pub mod NoteEntry
 pub mod NotificationSent
+pub mod Profile
+pub mod ProfileEntry
 pub mod ProfilesInfo
+pub mod Reply
 pub mod Request
 pub mod Search
 pub mod SetNickname

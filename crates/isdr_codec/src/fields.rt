@@ -1,6 +1,6 @@
 //! The fields of a request or of metadata. Each look for a field goes once over the value.
-ghost use Rattle.std.specs.Prelude.{◌≡◌, None, Some, MatchOption, option_map};
-ghost use Rattle.ber_tlv.specs.Objects.{object_at};
+ghost use Rattle.std.specs.Prelude.{◌≡◌, None, Some, MatchOption, option_and_then, option_map};
+ghost use Rattle.ber_tlv.specs.Objects.{object_at, objects_of};
 ghost use Rattle.ber_tlv.specs.Walk.{object_of};
 ghost use Rattle.isdr_codec.specs.Fields.{field_in, needed_in, sole, with_object};
 
@@ -14,6 +14,19 @@ pub fn first_object(bytes: &[u8]) -> Option<(Tlv<'_>, &[u8])>
     match read_tlv(bytes) {
         Ok((tlv, count)) => Some((tlv, &bytes[count..])),
         Err(_) => None,
+    }
+}
+
+// The data object that is all there is.
+pub fn whole_object(bytes: &[u8]) -> Option<Tlv<'_>>
+    ensures { MatchOption result (option_and_then sole (objects_of bytes.now) ≡ None)
+        (λ tlv. option_and_then sole (objects_of bytes.now) ≡ Some (object_of tlv)) }
+{
+    let (object, behind) = first_object(bytes)?;
+    if behind.is_empty() {
+        Some(object)
+    } else {
+        None
     }
 }
 

@@ -1,11 +1,8 @@
 //! Reading a request.
-ghost use Rattle.std.specs.Prelude.{◌≡◌, None, Some, MatchOption, option_and_then, option_map};
-ghost use Rattle.ber_tlv.specs.Objects.{objects_of};
-ghost use Rattle.ber_tlv.specs.Walk.{object_of};
+ghost use Rattle.std.specs.Prelude.{◌≡◌, option_map};
 ghost use Rattle.isdr_codec.specs.DeleteProfile.{delete_in};
 ghost use Rattle.isdr_codec.specs.DisableProfile.{disable_in};
 ghost use Rattle.isdr_codec.specs.EnableProfile.{enable_in, port_where};
-ghost use Rattle.isdr_codec.specs.Fields.{sole};
 ghost use Rattle.isdr_codec.specs.GetEid.{eid_in};
 ghost use Rattle.isdr_codec.specs.ListNotification.{note_list_in, operations_where};
 ghost use Rattle.isdr_codec.specs.MemoryReset.{memory_reset_in};
@@ -14,12 +11,11 @@ ghost use Rattle.isdr_codec.specs.Request.{request_of};
 ghost use Rattle.isdr_codec.specs.SetNickname.{nickname_in};
 
 use crate::Request;
-use crate::fields::{field_in, first_object, needed_in, sole};
+use crate::fields::{field_in, needed_in, sole, whole_object};
 use crate::naming::who_in;
 use crate::profiles_info::profiles_info_in;
 use crate::values::{bit_0, bit_1, bits_in, flag_in, number_in, of_length, operations_in, text_in};
 use apdu_codec::Sw;
-use ber_tlv::Tlv;
 
 fn nickname_in(value: &[u8]) -> Option<Request>
     ensures { result ≡ nickname_in value.now }
@@ -102,19 +98,6 @@ fn note_sent_in(value: &[u8]) -> Option<Request>
 {
     let number = number_in(needed_in(0x80, value)?)?;
     Some(Request::NoteSent { number })
-}
-
-// The data object that is all there is.
-fn whole_object(bytes: &[u8]) -> Option<Tlv<'_>>
-    ensures { MatchOption result (option_and_then sole (objects_of bytes.now) ≡ None)
-        (λ tlv. option_and_then sole (objects_of bytes.now) ≡ Some (object_of tlv)) }
-{
-    let (object, behind) = first_object(bytes)?;
-    if behind.is_empty() {
-        Some(object)
-    } else {
-        None
-    }
 }
 
 /// Reads a request to the ISD-R (GSMA SGP.22, ES10b and ES10c). Its fields come in any order, those

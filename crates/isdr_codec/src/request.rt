@@ -1,10 +1,8 @@
-use plain_lists::ShortList;
-
-/// The identifier of a profile, of ten bytes (ITU-T E.118, with its digits swapped as on the card).
-pub type Iccid = [u8; 10];
+use notify_list::Iccid;
+use record_codec::Label;
 
 /// A nickname, at most 64 bytes of UTF-8.
-pub type Nickname = ShortList<u8, 64>;
+pub type Nickname = Label;
 
 /// How a request names a profile (GSMA SGP.22, ProfileIdentifier).
 #[derive(Clone, Copy, Debug, PartialEq, Eq)]

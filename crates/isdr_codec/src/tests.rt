@@ -3,6 +3,9 @@ use super::*;
 use apdu_codec::Sw;
 use std::test::Fail;
 
+mod metadata;
+mod replies;
+
 const ICCID: Iccid = [0x98, 0x94, 0, 0, 0, 0, 0, 0, 0, 0xF1];
 
 const AID: [u8; 16] = [

@@ -64,7 +64,7 @@ pub fn bit_1(bits: u8) -> bool
     bits & 0x40 != 0
 }
 
-fn bit_2(bits: u8) -> bool
+pub fn bit_2(bits: u8) -> bool
     ensures { result ≡ bit_2 bits }
 {
     bits & 0x20 != 0

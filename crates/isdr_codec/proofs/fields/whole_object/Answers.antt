@@ -2,7 +2,7 @@ use Rattle.std.proofs.Common.{subst, ◌≡◌, List, ℕ, Some}
 use Rattle.ber_tlv.specs.Objects.{object_at}
 use Rattle.ber_tlv.specs.Walk.{object_of}
 use Rattle.isdr_codec.proofs.FieldLemmas.{is_empty, none_whole, not_alone, not_empty, whole_of}
-use Rattle.isdr_codec.proofs.reading.whole_object.Goals as goal
+use Rattle.isdr_codec.proofs.fields.whole_object.Goals as goal
 
 pub returns-in_err-object : goal.returns-in_err-object
 returns-in_err-object c = rw c.from_residual.ensures (none_whole c.args.bytes.now c.in_err-object.ensures)
