@@ -33,8 +33,8 @@ row_descriptor LinearKind record_len = 0x42 ∷ 0x21 ∷ 0 ∷ record_len ∷ []
 row_descriptor CyclicKind record_len = 0x46 ∷ 0x21 ∷ 0 ∷ record_len ∷ []
 
 -- the file descriptor that is given, else that of the row
-abbrev pub descriptor_for : Row → Fcp → List ℕ
-descriptor_for row given =
+abbrev pub descriptor_meant : Row → Fcp → List ℕ
+descriptor_meant row given =
     if is_some (form_of given.descriptor) then given.descriptor
     else row_descriptor row.kind row.record_len
 
@@ -53,7 +53,7 @@ is_name_due kind name = if is_application kind then is_some name else is_none na
 -- what the descriptor gives; the rest is as in the row, whose identifier stays
 abbrev pub parameters_given : Row → Fcp → Fcp
 parameters_given row given = record {
-  descriptor = descriptor_for row given;
+  descriptor = descriptor_meant row given;
   id = Some row.id;
   size = Some (unwrap_or given.size row.size);
   sfi = Some (unwrap_or given.sfi row.sfi);

@@ -1,7 +1,7 @@
 //! A file of a template, with what its descriptor says of it.
 ghost use Rattle.std.specs.Prelude.{◌≡◌};
 ghost use Rattle.fcp_codec.specs.Creation.{created_with};
-ghost use Rattle.profile_install.specs.TemplateFile.{described_master, descriptor_for, is_kind_kept, is_name_due, made_result, making_fault, master_with, parameters_given, parameters_of, row_descriptor};
+ghost use Rattle.profile_install.specs.TemplateFile.{described_master, descriptor_meant, is_kind_kept, is_name_due, made_result, making_fault, master_with, parameters_given, parameters_of, row_descriptor};
 
 use crate::ElementFault;
 use fcp_codec::{CreationFault, Fcp, FileForm, InUse, RuleRef, new_head};
@@ -22,8 +22,8 @@ fn row_descriptor(kind: Kind, record_len: u8) -> ShortList<u8, 6>
 }
 
 // The file descriptor that is given, else that of the row.
-fn descriptor_for(row: &Row, given: &Fcp) -> ShortList<u8, 6>
-    ensures { result ≡ descriptor_for row.now given.now }
+fn descriptor_meant(row: &Row, given: &Fcp) -> ShortList<u8, 6>
+    ensures { result ≡ descriptor_meant row.now given.now }
 {
     match given.form() {
         Some(_) => given.descriptor.copy(),
@@ -59,7 +59,7 @@ fn is_name_due(kind: Kind, given: &Fcp) -> bool
 fn parameters_given(row: &Row, given: Fcp) -> Fcp
     ensures { result ≡ parameters_given row.now given }
 {
-    let descriptor = descriptor_for(row, &given);
+    let descriptor = descriptor_meant(row, &given);
     let Fcp {
         descriptor: _given,
         id: _,
