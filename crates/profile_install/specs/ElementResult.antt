@@ -1,0 +1,17 @@
+-- The results of a package that is refused (TCA eUICC Profile Package).
+use Rattle.std.specs.Prelude.{ℕ, Result, Ok, Err}
+use Rattle.profile_install.specs.declared.fault.ElementFault.{ElementFault}
+use Rattle.profile_install.specs.declared.fault.ElementFault.TheVariants.{NoRoom, Malformed, BadParameter, WrongTemplate, WrongVersion}
+
+abbrev pub result_number : ElementFault → ℕ
+result_number NoRoom = 4
+result_number Malformed = 5
+result_number BadParameter = 6
+result_number WrongTemplate = 9
+result_number WrongVersion = 31
+
+-- what comes of a value, unless it was refused
+abbrev pub then_with : {S T : Type 0} → (S → Result T ElementFault) → Result S ElementFault
+    → Result T ElementFault
+then_with step (Ok value) = step value
+then_with step (Err fault) = Err fault

@@ -1,0 +1,2 @@
+pub mod ElementResult
+pub mod TemplateFile
