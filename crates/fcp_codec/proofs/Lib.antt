@@ -6,3 +6,4 @@ pub mod Again
 pub mod KeyLemmas
 pub mod CreationLemmas
 pub mod CreationFits
+pub mod FieldLemmas

@@ -1,6 +1,7 @@
 -- What is read from a list of fields.
 use Rattle.std.specs.Prelude.{◌≡◌, ◌≢◌, ◌⊎◌, ℕ, Bool, true, false, ◌&&◌, ◌||◌, not, List, [], ◌∷◌, ◌++◌, Option, Some, None, is_some, option_and_then, unwrap_or, if◌then◌else◌, ◌==◌, Result, Ok, Err, ⊤}
 use Rattle.std.specs.List.{list_any}
+use Rattle.ber_tlv.specs.Objects.{objects_of}
 use Rattle.ber_tlv.specs.Tlv.{BeginsWith, Refuses}
 use Rattle.ber_tlv.specs.Walk.{Object, LeadWith}
 use Rattle.ber_tlv.specs.declared.fault.TlvFault.{TlvFault}
@@ -74,3 +75,17 @@ pub record RefusedAt (value : List ℕ) (tag : ℕ) : Type 0 where
 abbrev pub ReadsFcp : List ℕ → Result Fcp FcpFault → Type 0
 ReadsFcp value (Ok fcp) = ReadsAsFcp value fcp
 ReadsFcp value (Err (BadField tag)) = RefusedAt value tag
+
+-- after those before them, none of these objects is a field that stands there again or is malformed
+abbrev pub are_good : List Object → List Object → Bool
+are_good before [] = true
+are_good before (object ∷ objects) =
+    not (is_bad before object) && are_good (before ++ object ∷ []) objects
+
+-- what the fields say, where none is bad
+abbrev pub fcp_if_good : List Object → Option Fcp
+fcp_if_good objects = if are_good [] objects then Some (fcp_of objects) else None
+
+-- what the fields in a value say, where it is objects of which none is bad
+abbrev pub fields_in : List ℕ → Option Fcp
+fields_in value = option_and_then fcp_if_good (objects_of value)

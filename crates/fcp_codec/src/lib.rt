@@ -16,7 +16,7 @@ pub use creation::{CreationFault, InUse, new_head};
 pub use fault::FcpFault;
 pub use fcp::{Fcp, FileForm, RuleRef};
 pub use laws::{created_files_fit, pins_are_listed_by_key, written_is_read};
-pub use read::read_fcp;
+pub use read::{read_fcp, read_fields};
 pub use write::put_fcp;
 
 #[cfg(test)]

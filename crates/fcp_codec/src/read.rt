@@ -4,7 +4,7 @@ ghost use Rattle.ber_tlv.specs.Walk.{Object, object_of};
 ghost use Rattle.fcp_codec.specs.declared.fault.FcpFault.{FcpFault};
 ghost use Rattle.fcp_codec.specs.declared.fcp.Fcp.{Fcp};
 ghost use Rattle.fcp_codec.specs.State.{Keep, TakesOneMore};
-ghost use Rattle.fcp_codec.specs.Reading.{ReadsFcp, fcp_of};
+ghost use Rattle.fcp_codec.specs.Reading.{ReadsFcp, fcp_of, fields_in};
 
 use crate::fault::FcpFault;
 use crate::fcp::{Fcp, RuleRef};
@@ -141,4 +141,14 @@ pub fn read_fcp(value: &[u8]) -> Result<Fcp, FcpFault>
     ensures only { (other : Result Fcp FcpFault) → ReadsFcp value.now other → result ≡ other }
 {
     answer_of(value)
+}
+
+/// What fields of file control parameters say, where `read_fcp` refuses none of them.
+pub fn read_fields(value: &[u8]) -> Option<Fcp>
+    ensures { result ≡ fields_in value.now }
+{
+    match read_fcp(value) {
+        Ok(fcp) => Some(fcp),
+        Err(_) => None,
+    }
 }

@@ -1,19 +1,9 @@
 //! File control parameters in the body of a command.
 ghost use Rattle.std.specs.Prelude.{◌≡◌};
-ghost use Rattle.uicc_admin.specs.Template.{fcp_in, fields_in};
+ghost use Rattle.uicc_admin.specs.Template.{fcp_in};
 
 use ber_tlv::read_tlv;
-use fcp_codec::{Fcp, read_fcp};
-
-// What the fields of a template say.
-fn read_fields(value: &[u8]) -> Option<Fcp>
-    ensures { result ≡ fields_in value.now }
-{
-    match read_fcp(value) {
-        Ok(fcp) => Some(fcp),
-        Err(_) => None,
-    }
-}
+use fcp_codec::{Fcp, read_fields};
 
 // The file control parameters in a body, where it is a well formed template `62` (ETSI TS 102 222).
 pub(crate) fn read_template(body: &[u8]) -> Option<Fcp>

@@ -1,5 +1,5 @@
-use Rattle.uicc_admin.proofs.TemplateLemmas.{fields_read, no_fields}
-use Rattle.uicc_admin.proofs.template.read_fields.Goals as goal
+use Rattle.fcp_codec.proofs.FieldLemmas.{fields_read, no_fields}
+use Rattle.fcp_codec.proofs.read.read_fields.Goals as goal
 
 pub returns-in-Ok : goal.returns-in-Ok
 returns-in-Ok c = fields_read c.args.value.now c.in-Ok.fcp c.in-Ok.ensures.answer
