@@ -104,6 +104,13 @@ impl Elements {
         }
     }
 
+    /// Whether all bytes that came were handed out.
+    pub fn is_used_up(&self) -> bool
+        ensures { IsTrue result ↔ (self.now.unread ≡ []) }
+    {
+        self.unread().is_empty()
+    }
+
     // The bytes that came and weren't handed out.
     fn unread(&self) -> &[u8]
         ensures { result.now ≡ self.now.unread }

@@ -85,6 +85,7 @@ fn the_bytes_of_a_part(rt: HostRuntime) -> Result<(), Fail> {
     assert_eq!(rt; elements.bytes(), b"\x5F\x81\x01\x02".as_slice());
     assert_eq!(rt; elements.next_part(), Part::Bytes(2));
     assert_eq!(rt; elements.bytes(), b"\xAA\xBB".as_slice());
+    assert!(rt; elements.is_used_up());
     assert_eq!(rt; elements.next_part(), Part::More);
     assert!(rt; elements.bytes().is_empty());
     Ok(())

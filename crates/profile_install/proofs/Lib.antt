@@ -1,1 +1,14 @@
 pub mod FilesFit
+pub mod Rows
+pub mod Reading
+pub mod Answering
+pub mod OneAnswer
+pub mod Oks
+pub mod GoodDraft
+pub mod GoodTemplate
+pub mod GoodRows
+pub mod GoodPins
+pub mod GoodSteps
+pub mod GoodState
+pub mod GoodParts
+pub mod GivesValid

@@ -1,7 +1,9 @@
 -- The results of a package that is refused (TCA eUICC Profile Package).
-use Rattle.std.specs.Prelude.{ℕ, Result, Ok, Err}
+use Rattle.std.specs.Prelude.{◌≡◌, ℕ, ⊤, Result, Ok, Err}
 use Rattle.profile_install.specs.declared.fault.ElementFault.{ElementFault}
 use Rattle.profile_install.specs.declared.fault.ElementFault.TheVariants.{NoRoom, Malformed, BadParameter, WrongTemplate, WrongVersion}
+use Rattle.profile_install.specs.declared.fault.StepFault.{StepFault}
+use Rattle.profile_install.specs.declared.fault.StepFault.TheVariants.{Refused, OutOfMemory}
 
 abbrev pub result_number : ElementFault → ℕ
 result_number NoRoom = 4
@@ -15,3 +17,9 @@ abbrev pub then_with : {S T : Type 0} → (S → Result T ElementFault) → Resu
     → Result T ElementFault
 then_with step (Ok value) = step value
 then_with step (Err fault) = Err fault
+
+-- what a step answers, where it is meant to come to this
+abbrev pub Gives : {S : Type 0} → Result S StepFault → Result S ElementFault → Type 0
+Gives (Ok value) meant = meant ≡ Ok value
+Gives (Err (Refused fault)) meant = meant ≡ Err fault
+Gives (Err OutOfMemory) meant = ⊤

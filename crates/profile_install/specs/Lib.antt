@@ -1,2 +1,13 @@
 pub mod ElementResult
 pub mod TemplateFile
+pub mod Values
+pub mod Header
+pub mod PukEntry
+pub mod PinEntry
+pub mod Draft
+pub mod Template
+pub mod Management
+pub mod State
+pub mod Package
+pub mod BuilderState
+pub mod Builder

@@ -39,3 +39,36 @@ impl ElementFault {
         }
     }
 }
+
+/// Why a step of the installation ends.
+#[derive(Clone, Copy, Debug, PartialEq, Eq, Error)]
+pub enum StepFault {
+    /// The element is refused.
+    #[error("the element is refused")]
+    Refused(ElementFault),
+    /// There is no memory.
+    #[error("out of memory")]
+    OutOfMemory,
+}
+
+impl From<ElementFault> for StepFault {
+    ghost use Rattle.std.specs.Prelude.{◌≡◌};
+    ghost use Rattle.profile_install.specs.declared.fault.StepFault.TheVariants.{Refused};
+
+    ghost from_gives = { λ fault step. step ≡ Refused fault };
+
+    fn from(fault: ElementFault) -> StepFault {
+        StepFault::Refused(fault)
+    }
+}
+
+impl From<NoMemory> for StepFault {
+    ghost use Rattle.std.specs.Prelude.{◌≡◌};
+    ghost use Rattle.profile_install.specs.declared.fault.StepFault.TheVariants.{OutOfMemory};
+
+    ghost from_gives = { λ _ step. step ≡ OutOfMemory };
+
+    fn from(_fault: NoMemory) -> StepFault {
+        StepFault::OutOfMemory
+    }
+}

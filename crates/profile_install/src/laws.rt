@@ -1,5 +1,6 @@
 //! What holds of the content that a package makes.
-ghost use Rattle.std.specs.Prelude.{◌≡◌, List, ℕ, Ok, [], ◌∷◌};
+ghost use Rattle.std.specs.Prelude.{◌≡◌, ◌<◌, ◌^◌, List, ℕ, Ok, Result, [], ◌∷◌};
+ghost use Rattle.std.specs.List.{AllByRecursion};
 ghost use Rattle.file_rows.specs.Change.{Fits, new_file};
 ghost use Rattle.file_rows.specs.Content.{IsValid};
 ghost use Rattle.file_rows.specs.declared.change.Change.{Change};
@@ -8,6 +9,8 @@ ghost use Rattle.file_rows.specs.declared.head.FileHead.{FileHead};
 ghost use Rattle.fcp_codec.specs.Creation.{HoldsFilesAt};
 ghost use Rattle.fcp_codec.specs.declared.fcp.Fcp.{Fcp};
 ghost use Rattle.file_templates.specs.declared.template_row.Row.{Row};
+ghost use Rattle.profile_install.specs.Package.{PackageGives};
+ghost use Rattle.profile_install.specs.declared.work.Refusal.{Refusal};
 ghost use Rattle.profile_install.specs.TemplateFile.{described, described_master};
 
 /// A template's file fits a valid content as a new file, where its directory is there; the MF alone
@@ -20,4 +23,20 @@ pub fn template_files_fit()
     ensures master { (row : Row) (given : Fcp) (head : FileHead)
         → described_master row given ≡ Ok head
         → IsValid (record { rows = new_file head ∷ []; pins = [] }) }
+{}
+
+/// The bytes of a package give one answer: a content, or the place and the result of the first
+/// faulty element.
+pub fn one_answer_of_a_package()
+    ensures { (iccid bytes : List ℕ) (one other : Result Content Refusal)
+        → PackageGives iccid bytes one → PackageGives iccid bytes other → one ≡ other }
+{}
+
+/// What a package gives is a content that a card may hold: its files are a tree under the MF and
+/// differ in path, SFI and name, each PIN is at home in a directory that is there, and the files
+/// keep the quota.
+pub fn packages_give_valid_contents()
+    ensures { (iccid bytes : List ℕ) (content : Content)
+        → AllByRecursion (λ byte. byte < 2 ^ 8) bytes
+        → PackageGives iccid bytes (Ok content) → IsValid content }
 {}

@@ -1,7 +1,16 @@
+mod packages;
+mod refused_elements;
+mod refused_files;
+mod refused_pins;
+mod refused_steps;
+mod samples;
+mod taken;
+
 use super::*;
 use fcp_codec::{InUse, read_fcp};
-use file_rows::{FileHead, Kind, Life, Name, Path, Rule};
+use file_rows::{Content, FileHead, Kind, Life, Name, Path, PinRow, Rule};
 use file_templates::row;
+use std::alloc::Global;
 
 const USIM_NAME: [u8; 16] = *b"\xA0\x00\x00\x00\x87\x10\x02\xFF\xFF\xFF\xFF\x89\x00\x00\x01\x00";
 

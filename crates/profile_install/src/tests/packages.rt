@@ -1,0 +1,61 @@
+//! What the tests of whole packages share.
+
+use super::*;
+
+/// What a package is, its bytes behind those that the cases of a test share, and the place and the
+/// result of its first faulty element.
+pub type Refused = (&'static str, &'static [u8], u32, u8);
+
+pub const ICCID: [u8; 10] = *b"\x98\x94\x00\x00\x00\x00\x00\x00\x00\xF1";
+
+pub const HEADER: &[u8] =
+    b"\xA0\x12\x80\x01\x03\x81\x01\x03\x83\x0A\x98\x94\x00\x00\x00\x00\x00\x00\x00\xF1";
+
+pub const HEADER_AND_MF: &[u8] =
+    b"\xA0\x12\x80\x01\x03\x81\x01\x03\x83\x0A\x98\x94\x00\x00\x00\x00\x00\x00\x00\xF1\
+    \xB0\x08\x06\x06\x67\x81\x0F\x01\x02\x01";
+
+/// What a package in two pieces gives.
+pub fn built(
+    alloc: Global,
+    iccid: [u8; 10],
+    bytes: &[u8],
+    cut: usize,
+) -> Result<Content, BuildFault> {
+    let mut builder = Builder::new(alloc, iccid);
+    if bytes.len() < 65_536 {
+        let (first, second) = bytes.split_at(cut.min(bytes.len()));
+        if builder.feed(first).is_err() || builder.feed(second).is_err() {
+            return Err(BuildFault::OutOfMemory);
+        }
+    }
+    builder.end()
+}
+
+/// What a package of two parts gives, cut behind its first byte.
+pub fn built_behind(
+    alloc: Global,
+    front: &[u8],
+    rest: &[u8],
+) -> Result<Result<Content, BuildFault>, NoMemory> {
+    let mut bytes = Vec::new(alloc);
+    bytes.extend_from_slice(front)?;
+    bytes.extend_from_slice(rest)?;
+    Ok(built(alloc, ICCID, bytes.as_slice(), 1))
+}
+
+pub fn is_refused(answer: &Result<Content, BuildFault>, place: u32, number: u8) -> bool {
+    match answer {
+        Err(BuildFault::Element(refusal)) => refusal.place == place && refusal.result == number,
+        _ => false,
+    }
+}
+
+/// How much of the quota the files take.
+pub fn use_of(content: &Content) -> usize {
+    let mut taken = 0usize;
+    for row in content.rows.as_slice() {
+        taken = taken.saturating_add(row.body.len()).saturating_add(32);
+    }
+    taken
+}
