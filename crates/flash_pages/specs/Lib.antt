@@ -1,6 +1,7 @@
 pub mod Append
 pub mod Bank
 pub mod Bytes
+pub mod FileFlash
 pub mod Flash
 pub mod Kept
 pub mod Left
@@ -9,4 +10,6 @@ pub mod MemoryLaw
 pub mod Past
 pub mod Plan
 pub mod Rows
+pub mod ServedName
+pub mod Shelf
 pub mod Switch

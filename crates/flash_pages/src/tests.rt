@@ -5,6 +5,8 @@ ghost use Rattle.flash_pages.specs.Bank.{LiesInFlash};
 ghost use Rattle.flash_pages.specs.Bytes.{blank, part};
 ghost use Rattle.flash_pages.specs.Flash.{card_blocks, IsRange};
 
+mod shelves;
+
 use super::*;
 use crate::row::copy_prefix;
 use port_io::Failed;
