@@ -5,6 +5,7 @@ pub mod CleanLemmas
 pub mod CopyLemmas
 pub mod CopyRowLemmas
 pub mod EraseLemmas
+pub mod HeldCardLemmas
 pub mod ImageLemmas
 pub mod MakeLemmas
 pub mod OpenLemmas
@@ -13,6 +14,7 @@ pub mod PoolChangeLemmas
 pub mod PoolCompactLemmas
 pub mod PoolCopyLemmas
 pub mod PoolFileLemmas
+pub mod PoolFitLemmas
 pub mod PoolLemmas
 pub mod PoolSizeLemmas
 pub mod ReadLemmas

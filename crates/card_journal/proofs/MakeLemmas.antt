@@ -1,19 +1,18 @@
 -- A new card on a blank flash.
-use Rattle.std.proofs.Common.{◌≡◌, ◌≢◌, ◌⊎◌, inl, inr, ⊎_elim, ℕ, zero, suc, ◌+◌, ◌-◌, ◌*◌, ◌%◌, ◌<◌, ◌≤◌, ◌^◌, IsTrue, List, [], ◌∷◌, ◌++◌, length, take, drop, get_or, replicate, Option, Some, None, IfSome, Result, Ok, Err, OnOk, IfOk, IfErr, refl, sym, ◌∙◌, ap, subst, arith}
-use Rattle.std.specs.Prelude.{◌==◌, count_by, slice_index}
-use Rattle.std.proofs.lemmas.List.{get_or-drop, get_or-take, length-take, take-take}
-use Rattle.flash_pages.specs.Append.{AppendsRow, EndsAt, EndsBlank, HasRowsOrOneMore, IsTornRow, LeavesTornRow}
-use Rattle.flash_pages.specs.Bank.{IsPlaceIn, bank_bytes, end_of, start_of}
-use Rattle.flash_pages.specs.Bytes.{DiffersIn, IsErased, blank, part, patch}
+use Rattle.std.proofs.Common.{◌≡◌, inl, inr, ⊎_elim, ℕ, zero, suc, ◌+◌, ◌*◌, ◌%◌, ◌≤◌, List, [], ◌∷◌, length, replicate, Option, Some, None, IfSome, Result, Ok, Err, OnOk, IfOk, IfErr, refl, sym, ◌∙◌, ap, subst, arith}
+use Rattle.std.specs.Prelude.{◌==◌, count_by}
+use Rattle.flash_pages.specs.Append.{AppendsRow, EndsAt, EndsBlank, IsTornRow, LeavesTornRow}
+use Rattle.flash_pages.specs.Bank.{IsPlaceIn, bank_bytes, end_of}
+use Rattle.flash_pages.specs.Bytes.{DiffersIn, IsErased, blank, patch}
 use Rattle.flash_pages.specs.Flash.{FlashState, IsFlash, IsSettled, LeavesOnly, MayLeaveOnly, card_blocks}
 use Rattle.flash_pages.specs.Rows.{HasRows, row_of}
 use Rattle.flash_pages.specs.Switch.{live_of}
 use Rattle.flash_pages.proofs.BlankBehind.{EndsBlank-blank, EndsBlank-ends, EndsBlank-rows, bank-append}
 use Rattle.flash_pages.proofs.Outcome.{torn_in_bank}
-use Rattle.flash_pages.proofs.Patches.{DiffersIn-patch, blank_from_each, length-blank, part-blank, part_outside}
+use Rattle.flash_pages.proofs.Patches.{DiffersIn-patch, length-blank, part-blank, part_outside}
 use Rattle.flash_pages.proofs.RowLemmas.{length-row_of}
 use Rattle.flash_pages.proofs.Throughout.{MayLeaveOnly-settled}
-use Rattle.flash_pages.proofs.Touched.{GoesOn-trans, LeavesOnly-trans, at_some, flash_size, from_each, known, known_before, same_some}
+use Rattle.flash_pages.proofs.Touched.{at_some, flash_size, from_each, known, known_before, same_some}
 use Rattle.flash_pages.proofs.Unique.{unique}
 use Rattle.record_codec.specs.Begin.{IsBegun}
 use Rattle.record_codec.specs.FitsCard.{FitsCard}

@@ -1,5 +1,5 @@
 -- What is read when a store is opened.
-use Rattle.std.proofs.Common.{◌≡◌, ◌≢◌, ◌↔◌, ℕ, ◌+◌, ◌-◌, ◌*◌, ◌<◌, ◌≤◌, Bool, true, false, IsTrue, List, [], length, take, drop, slice_index, Option, Some, None, is_none, IfSome, EachIndex, get_or, refl, sym, ◌∙◌, ap, subst, arith}
+use Rattle.std.proofs.Common.{◌≡◌, ◌≢◌, ◌↔◌, ℕ, ◌+◌, ◌-◌, ◌*◌, ◌<◌, ◌≤◌, Bool, IsTrue, List, [], length, take, drop, slice_index, Option, Some, None, is_none, IfSome, EachIndex, get_or, refl, sym, ◌∙◌, ap, subst, arith}
 use Rattle.std.proofs.lemmas.Bool.{false≢true}
 use Rattle.std.proofs.lemmas.List.{get_or-drop, get_or-replicate, get_or-take, length-take, take-take, take_at}
 use Rattle.flash_pages.specs.Bank.{IsPlaceIn, bank_bytes, end_of, start_of}
@@ -9,7 +9,7 @@ use Rattle.flash_pages.specs.Rows.{HasRows, RowsUpTo, open_rows}
 use Rattle.flash_pages.specs.Switch.{live_of}
 use Rattle.flash_pages.specs.declared.bank.Bank.{Bank}
 use Rattle.flash_pages.proofs.BlankBehind.{bank-blank, bank-erased, blank-more}
-use Rattle.flash_pages.proofs.Patches.{blank_from_each, length-blank, part-blank}
+use Rattle.flash_pages.proofs.Patches.{blank_from_each}
 use Rattle.flash_pages.proofs.Touched.{at_some, flash_size, from_each}
 use Rattle.record_codec.specs.declared.durable.Durable.{Durable}
 use Rattle.card_journal.specs.Image.{HoldsCard, bank_of, switch_row}

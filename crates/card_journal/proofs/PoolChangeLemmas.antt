@@ -10,9 +10,11 @@ use Rattle.file_rows.specs.declared.change.Change.TheVariants.{WriteRange, Write
 use Rattle.file_rows.specs.declared.head.FileHead.{FileHead}
 use Rattle.file_rows.specs.declared.row.FileRow.{FileRow}
 use Rattle.file_rows.proofs.EditLemmas.{is_some_and, some_is}
-use Rattle.card_journal.specs.Pool.{CanWrite, HasSizeRoom, pooled_rows, pooled_size}
-use Rattle.card_journal.proofs.PoolLemmas.{IsSized, pooled_bytes, heads_of-pooled_rows, row-at, pooled_rows-pooled_bytes, size-heads_of, sized-pooled_rows, use-pooled_rows}
+use Rattle.card_journal.specs.Pool.{CanWrite, HasSizeRoom}
+use Rattle.record_codec.specs.Pooled.{pooled_rows, pooled_size}
+use Rattle.card_journal.proofs.PoolLemmas.{IsSized, pooled_bytes, heads_of-pooled_rows, pooled_rows-pooled_bytes, size-heads_of, sized-pooled_rows, use-pooled_rows}
 use Rattle.record_codec.proofs.RowLemmas.{IsAt, none_at, row_there, with_there}
+use Rattle.record_codec.proofs.PooledLemmas.{row-at}
 
 -- what is said of the head at a place is said of the file there
 pub row_at_place : (heads : List FileHead) (bytes : List ℕ) (index : ℕ) (path : List ℕ) → IsSomeAnd (slice_get heads index) (λ head. head.path ≡ path)

@@ -1,5 +1,5 @@
 -- The bodies of the files that stay, moved together.
-use Rattle.std.proofs.Common.{◌≡◌, ℕ, zero, suc, ◌+◌, ◌-◌, ◌≤◌, Bool, true, false, cond, List, [], ◌∷◌, ◌++◌, length, take, drop, filter, Some, refl, sym, ◌∙◌, ap, subst, arith, append-nil, add-one}
+use Rattle.std.proofs.Common.{◌≡◌, ℕ, suc, ◌+◌, ◌-◌, ◌≤◌, Bool, true, false, cond, List, [], ◌∷◌, ◌++◌, length, take, drop, filter, Some, refl, sym, ◌∙◌, ap, subst, arith, append-nil, add-one}
 use Rattle.std.specs.Prelude.{slice_get}
 use Rattle.std.specs.List.{copy_within}
 use Rattle.std.proofs.lemmas.Grind.{flat_map-append}
@@ -7,25 +7,9 @@ use Rattle.std.proofs.lemmas.List.{length-take-le, length-append, length-drop, l
 use Rattle.std.proofs.lemmas.List.Elements.{filter-append}
 use Rattle.file_rows.specs.declared.head.FileHead.{FileHead}
 use Rattle.file_rows.specs.declared.row.FileRow.{FileRow}
-use Rattle.card_journal.specs.Pool.{pooled_rows, pooled_size}
-use Rattle.card_journal.proofs.PoolLemmas.{pooled_bytes, cut, heads_of-pooled_rows, row-at, size-cons, start-within}
-
-pub take-one : {X : Type 0} (xs : List X) (k : ℕ) (x : X) → slice_get xs k ≡ Some x → take (suc k) xs ≡ take k xs ++ x ∷ []
-take-one [] k x there = absurd (cc)
-take-one (y ∷ ys) zero x there =
-    let same : y ≡ x = cc in
-    ap (λ z. z ∷ []) same
-take-one (y ∷ ys) (suc k) x there = ap (λ zs. y ∷ zs) (take-one ys k x there)
-
--- one file further
-pub size-one : (heads : List FileHead) (k : ℕ) (head : FileHead) → slice_get heads k ≡ Some head
-    → pooled_size (take (suc k) heads) ≡ pooled_size (take k heads) + head.size
-size-one [] k head there = absurd (cc)
-size-one (it ∷ heads) zero head there =
-    let same : it ≡ head = cc in
-    omega (arith, size-cons it [], ap (λ (h : FileHead). h.size) same)
-size-one (it ∷ heads) (suc k) head there =
-    omega (arith, size-cons it (take (suc k) heads), size-cons it (take k heads), size-one heads k head there)
+use Rattle.record_codec.specs.Pooled.{pooled_rows, pooled_size}
+use Rattle.card_journal.proofs.PoolLemmas.{pooled_bytes, cut, heads_of-pooled_rows}
+use Rattle.record_codec.proofs.PooledLemmas.{row-at, size-one, start-within, take-one}
 
 -- the bodies that stay of the first files
 abbrev pub kept_of : (FileRow → Bool) → List FileRow → ℕ → List ℕ

@@ -5,9 +5,8 @@ use Rattle.std.proofs.lemmas.List.Sums.{sum_by-cons}
 use Rattle.file_rows.specs.Content.{use_of}
 use Rattle.file_rows.specs.declared.head.FileHead.{FileHead}
 use Rattle.file_rows.specs.declared.row.FileRow.{FileRow}
-use Rattle.card_journal.specs.Pool.{pooled_rows, pooled_size}
-use Rattle.card_journal.proofs.PoolCompactLemmas.{size-one, take-one}
-use Rattle.card_journal.proofs.PoolLemmas.{row-at}
+use Rattle.record_codec.specs.Pooled.{pooled_rows, pooled_size}
+use Rattle.record_codec.proofs.PooledLemmas.{row-at, size-one, take-one}
 
 use-cons : (row : FileRow) (rows : List FileRow) → use_of (row ∷ rows) ≡ length row.body + 32 + use_of rows
 use-cons row rows = sum_by-cons (λ (row : FileRow). length row.body + 32) row rows

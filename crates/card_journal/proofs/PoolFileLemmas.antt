@@ -9,9 +9,11 @@ use Rattle.file_rows.specs.declared.head.FileHead.{FileHead}
 use Rattle.file_rows.specs.declared.head.Life.{Life}
 use Rattle.file_rows.specs.declared.row.FileRow.{FileRow}
 use Rattle.file_rows.proofs.EditLemmas.{is_some_and, some_is}
-use Rattle.card_journal.specs.Pool.{CanWrite, body_after, pooled_rows, pooled_size}
+use Rattle.card_journal.specs.Pool.{CanWrite, body_after}
+use Rattle.record_codec.specs.Pooled.{pooled_rows, pooled_size}
 use Rattle.record_codec.specs.InPlace.{HasPlaceFor}
-use Rattle.card_journal.proofs.PoolLemmas.{row-at, size-set, splice, start-within}
+use Rattle.card_journal.proofs.PoolLemmas.{size-set, splice}
+use Rattle.record_codec.proofs.PooledLemmas.{row-at, start-within}
 
 pub set-same : {X : Type 0} (xs : List X) (i : ℕ) (x : X) → slice_get xs i ≡ Some x → set xs i x ≡ xs
 set-same [] i x there = absurd (cc)

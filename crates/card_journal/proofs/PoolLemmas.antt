@@ -9,7 +9,8 @@ use Rattle.file_rows.specs.Change.{new_file}
 use Rattle.file_rows.specs.Content.{heads_of, use_of}
 use Rattle.file_rows.specs.declared.head.FileHead.{FileHead}
 use Rattle.file_rows.specs.declared.row.FileRow.{FileRow}
-use Rattle.card_journal.specs.Pool.{pooled_rows, pooled_size}
+use Rattle.record_codec.specs.Pooled.{pooled_rows, pooled_size}
+use Rattle.record_codec.proofs.PooledLemmas.{size-cons}
 
 -- the bodies of files, one behind another
 abbrev pub pooled_bytes : List FileRow → List ℕ
@@ -30,9 +31,6 @@ left_over size more bytes fits =
 empty_by_length : (bytes : List ℕ) → 0 ≡ length bytes → [] ≡ bytes
 empty_by_length [] e = refl
 empty_by_length (byte ∷ bytes) e = absurd (omega (arith, e))
-
-pub size-cons : (head : FileHead) (heads : List FileHead) → pooled_size (head ∷ heads) ≡ head.size + pooled_size heads
-size-cons head heads = sum_by-cons (λ (head : FileHead). head.size) head heads
 
 rest_of : (head : FileHead) (heads : List FileHead) (bytes : List ℕ) → pooled_size (head ∷ heads) ≡ length bytes
     → (length (take head.size bytes) ≡ head.size) × (pooled_size heads ≡ length (drop head.size bytes))
@@ -85,18 +83,6 @@ use-pooled_rows (head ∷ heads) bytes full =
     sum_by-cons (λ (row : FileRow). length row.body + 32) (record { head = head; body = take head.size bytes }) (pooled_rows heads (drop head.size bytes))
     ∙ omega (arith, rest.0, rest.1, use-pooled_rows heads (drop head.size bytes) rest.1, size-cons head heads, full)
 
--- the file at a place
-pub row-at : (heads : List FileHead) (index : ℕ) (bytes : List ℕ) (head : FileHead) → slice_get heads index ≡ Some head
-    → slice_get (pooled_rows heads bytes) index ≡ Some (record { head = head; body = take head.size (drop (pooled_size (take index heads)) bytes) })
-row-at [] index bytes head there = absurd (cc)
-row-at (it ∷ heads) zero bytes head there =
-    let same : it ≡ head = cc in
-    ap (λ (h : FileHead). let row : FileRow = record { head = h; body = take h.size bytes } in Some row) same
-row-at (it ∷ heads) (suc index) bytes head there =
-    row-at heads index (drop it.size bytes) head there
-    ∙ ap (λ (b : List ℕ). let row : FileRow = record { head = head; body = take head.size b } in Some row)
-    (drop-drop (pooled_size (take index heads)) it.size bytes ∙ ap (λ (n : ℕ). drop n bytes) (sym (size-cons it (take index heads))))
-
 -- an edit behind the first bytes, seen from there
 shifted : (first start size : ℕ) (bytes body : List ℕ) → take (first + start) bytes ++ (body ++ drop (first + start + size) bytes)
     ≡ take first bytes ++ (take start (drop first bytes) ++ (body ++ drop (start + size) (drop first bytes)))
@@ -124,16 +110,6 @@ splice (it ∷ heads) (suc index) bytes head other body full there e =
     ∙ ap (pooled_rows (it ∷ set heads index other)) (shifted it.size start head.size bytes body)
     ∙ row_cut it (set heads index other) (take it.size bytes) (take start rest ++ (body ++ drop (start + head.size) rest)) parts.0
     ∙ ap (λ (rows : List FileRow). let row : FileRow = record { head = it; body = take it.size bytes } in row ∷ rows) (splice heads index rest head other body parts.1 there e)
-
--- the bytes up to the end of a file's body are among those of all
-pub start-within : (heads : List FileHead) (index : ℕ) (head : FileHead) → slice_get heads index ≡ Some head
-    → pooled_size (take index heads) + head.size ≤ pooled_size heads
-start-within [] index head there = absurd (cc)
-start-within (it ∷ heads) zero head there =
-    let same : it ≡ head = cc in
-    omega (arith, size-cons it heads, ap (λ (h : FileHead). h.size) same)
-start-within (it ∷ heads) (suc index) head there =
-    omega (arith, size-cons it heads, size-cons it (take index heads), start-within heads index head there)
 
 -- one file more takes as many bytes more
 pub size-more : (heads : List FileHead) (head : FileHead) → pooled_size (heads ++ head ∷ []) ≡ pooled_size heads + head.size

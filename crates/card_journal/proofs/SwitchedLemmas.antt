@@ -1,5 +1,5 @@
 -- What a switch and the calls around it leave of an image.
-use Rattle.std.proofs.Common.{◌≡◌, ◌⊎◌, inl, inr, ⊎_elim, ℕ, ◌+◌, ◌-◌, ◌*◌, ◌<◌, ◌≤◌, Bool, IsTrue, ◌↔◌, List, [], ◌∷◌, ◌++◌, length, Option, Some, None, IsSome, IfSome, Result, Ok, Err, OnOk, refl, sym, ◌∙◌, ap, subst, arith}
+use Rattle.std.proofs.Common.{◌≡◌, inl, inr, ℕ, ◌+◌, ◌-◌, ◌<◌, ◌≤◌, List, [], ◌∷◌, ◌++◌, length, Option, Some, None, IsSome, IfSome, Result, refl, sym, ◌∙◌, ap, subst, arith}
 use Rattle.std.specs.Prelude.{⊤}
 use Rattle.flash_pages.specs.Append.{AppendsRow, EndsBlank}
 use Rattle.flash_pages.specs.Bank.{bank_bytes, end_of, start_of}
@@ -8,14 +8,13 @@ use Rattle.flash_pages.specs.Flash.{FlashState, GoesOn, IsFlash, Restarts, card_
 use Rattle.flash_pages.specs.Rows.{row_of}
 use Rattle.flash_pages.specs.Switch.{IsNextByte}
 use Rattle.flash_pages.proofs.BlankBehind.{bank-append}
-use Rattle.flash_pages.proofs.Patches.{DiffersIn-patch, part_outside}
-use Rattle.flash_pages.proofs.RowLemmas.{length-row_of}
+use Rattle.flash_pages.proofs.Patches.{part_outside}
 use Rattle.flash_pages.proofs.SwitchByte.{one_next_byte}
 use Rattle.flash_pages.proofs.Touched.{at_some, flash_size, from_each, known, known_after, same_some}
 use Rattle.record_codec.specs.declared.durable.Durable.{Durable}
 use Rattle.card_journal.specs.CardStoreState.{CameBack}
 use Rattle.card_journal.specs.Image.{bank_of, switch_row}
-use Rattle.card_journal.specs.StoreState.{HasNextByte, IsUsedUp, IsWorn, OpensTorn}
+use Rattle.card_journal.specs.StoreState.{HasNextByte, IsUsedUp, OpensTorn}
 use Rattle.card_journal.specs.Stored.{EndsClean, EndsTorn}
 use Rattle.card_journal.specs.Switched.{FromTo, IsSwitched, KeepsSwitchRow}
 

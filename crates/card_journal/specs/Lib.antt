@@ -2,6 +2,7 @@ pub mod CardStoreState
 pub mod CommitFault
 pub mod Copy
 pub mod CopyBody
+pub mod Held
 pub mod Image
 pub mod Made
 pub mod MakeFault

@@ -1,22 +1,12 @@
--- A profile's files as their heads and one list of bytes, in which the bodies stand one behind
--- another.
-use Rattle.std.specs.Prelude.{ℕ, zero, suc, ◌≡◌, ◌≤◌, ◌+◌, ◌*◌, List, [], ◌∷◌, length, take, drop, sum_by, IsSomeAnd, slice_get, ⊤}
+-- A profile's content in a pool: the files as their heads and one list of bytes.
+use Rattle.std.specs.Prelude.{ℕ, ◌≡◌, ◌≤◌, ◌+◌, List, Option, length, take, find, IsSomeAnd, slice_get, ⊤}
 use Rattle.file_rows.specs.Change.{with_record, written}
 use Rattle.file_rows.specs.declared.change.Change.{Change}
 use Rattle.file_rows.specs.declared.change.Change.TheVariants.{WriteRange, WriteRecord, PinSet, FileAdd, FileGone, FileState, FileSize}
 use Rattle.file_rows.specs.declared.head.FileHead.{FileHead}
-use Rattle.file_rows.specs.declared.row.FileRow.{FileRow}
+use Rattle.file_rows.specs.Path.{same_path}
 use Rattle.record_codec.specs.InPlace.{HasPlaceFor}
-
--- the files with these heads, whose bodies are cut off the bytes in turn
-abbrev pub pooled_rows : List FileHead → List ℕ → List FileRow
-pooled_rows [] bytes = []
-pooled_rows (head ∷ heads) bytes =
-    record { head = head; body = take head.size bytes } ∷ pooled_rows heads (drop head.size bytes)
-
--- how many bytes the bodies take
-abbrev pub pooled_size : List FileHead → ℕ
-pooled_size heads = sum_by (λ head. head.size) heads
+use Rattle.record_codec.specs.Pooled.{pooled_size}
 
 -- room for what a quota allows: 2,048 files, which count 32 bytes each, 65,536 bytes in their
 -- bodies, and 32 PINs
@@ -24,6 +14,10 @@ pub record HasQuotaRoom (files bytes pins : ℕ) : Type 0 where
   pub for_files : 2048 ≤ files
   pub for_bytes : 65536 ≤ bytes
   pub for_pins : 32 ≤ pins
+
+-- the head of the file of that path, where there is one
+abbrev pub head_at : List ℕ → List FileHead → Option FileHead
+head_at path heads = find (λ head. same_path head.path path) heads
 
 -- the place of the file of a path among others, counted from 0, and where its body begins
 pub record IsPlaceOf (path : List ℕ) (heads : List FileHead) (index start : ℕ) : Type 0 where

@@ -1,5 +1,5 @@
 -- What contracts see of a store.
-use Rattle.std.specs.Prelude.{ℕ, ◌≡◌, List, ◌<◌, ◌≤◌, ◌+◌, length, Option, Some, None, IfSome, IsSome}
+use Rattle.std.specs.Prelude.{ℕ, ◌≡◌, List, ◌<◌, ◌≤◌, ◌+◌, length, Option, None, IfSome, IsSome}
 use Rattle.flash_pages.specs.Bank.{IsPlaceIn, end_of}
 use Rattle.flash_pages.specs.Flash.{FlashState}
 use Rattle.flash_pages.specs.Switch.{IsNextByte}

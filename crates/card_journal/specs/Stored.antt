@@ -1,5 +1,5 @@
 -- What the flash of a store holds.
-use Rattle.std.specs.Prelude.{ℕ, ◌≡◌, ◌⊎◌, ◌-◌, List, Option, Some, None, IfSome, Result, OnOk}
+use Rattle.std.specs.Prelude.{ℕ, ◌≡◌, ◌⊎◌, ◌-◌, List, Option, Some, IfSome, Result, OnOk}
 use Rattle.flash_pages.specs.Append.{EndsBlank}
 use Rattle.flash_pages.specs.Bank.{bank_bytes, start_of}
 use Rattle.flash_pages.specs.Flash.{FlashState, MayLeaveOnly, Throughout}

@@ -3,6 +3,7 @@ ghost use Rattle.std.specs.Prelude.{IsErrOf, IsSome, IsTrue, OnErr, OnOk};
 ghost use Rattle.card_journal.specs.CardStoreState.{CameBack, CardStoreState, HoldsOneOf, IsAtomic};
 ghost use Rattle.card_journal.specs.CardStoreState.{IsHeldWith, KeepsHeld, IsRefusedUsedUp, OpensUsedUp};
 ghost use Rattle.card_journal.specs.CommitFault.{IsCauseOf};
+ghost use Rattle.card_journal.specs.Held.{PutsProfile};
 ghost use Rattle.card_journal.specs.OpenFault.{HasRisen};
 ghost use Rattle.card_journal.specs.StoreState.{MayCommit};
 ghost use Rattle.flash_pages.specs.Flash.{GoesOn, IsFlash, Throughout, card_blocks};
@@ -58,7 +59,7 @@ pub trait CardStore {
     /// Commits a record, and carries it out in memory. After Ok the flash holds what the record
     /// makes of the card, whatever happens next. A refusal leaves what is held as it was; after
     /// Flash a power cut may yet leave the record on the flash, and the next commit repairs that
-    /// first by a switch.
+    /// first by a switch. It takes memory for one more profile alone.
     fn commit(&mut self, entry: &Record) -> Result<(), CommitFault>
         requires open { is_open self.old }
         requires takes { MayCommit (state self.old).held entry.now }
@@ -78,7 +79,8 @@ pub trait CardStore {
             (state self.old) (state self.new) }
         ensures used_up { (row : ℕ) → IfSome (state self.old).flash.bytes (is_used_up row)
             → IfSome (state self.new).flash.bytes (is_used_up row) }
-        ensures memory { IsErrOf result CommitFault.NoMemory → self.new ≡ self.old }
+        ensures memory { IsErrOf result CommitFault.NoMemory
+            → (self.new ≡ self.old) × PutsProfile entry.now }
         ensures time { GoesOn (state self.old).flash (state self.new).flash }
         ensures cause { IfErr result (IsCauseOf (state self.old).flash.faults
             (state self.new).flash.faults) };

@@ -10,13 +10,14 @@ ghost use Rattle.flash_pages.specs.Flash.{IsSettled, Touches, block_len};
 ghost use Rattle.record_codec.specs.CopyRecord.{record_of};
 ghost use Rattle.record_codec.specs.IsDurable.{IsDurable};
 
+use crate::PooledContent;
 use crate::append::bank_of;
 use crate::copy_body::CopyBody;
 use crate::erase::erase_bank;
-use file_rows::Content;
+use crate::held::HeldCard;
 use flash_pages::{BLOCK_LEN, Flash, append_row};
 use port_io::Failed;
-use record_codec::{CopyRecord, Durable, ProfileHead};
+use record_codec::{CopyRecord, ProfileHead};
 
 fn head_at(heads: &[ProfileHead], place: usize) -> &ProfileHead
     requires { place < length heads.now }
@@ -25,40 +26,43 @@ fn head_at(heads: &[ProfileHead], place: usize) -> &ProfileHead
     &heads[place]
 }
 
-fn content_at(contents: &[Content], place: usize) -> &Content
+fn content_at(contents: &[PooledContent], place: usize) -> &PooledContent
     requires { place < length contents.now }
     ensures { slice_get contents.now place ≡ Some result.now }
 {
     &contents[place]
 }
 
-fn copied_profile(held: &Durable, place: usize) -> CopyRecord<'_>
+fn copied_profile(held: &HeldCard, place: usize) -> CopyRecord<'_>
     requires are { IsDurable held.now }
     requires place { place < length held.now.heads.profiles }
     ensures { slice_get (copy_of held.now) (suc place) ≡ Some (record_of result) }
 {
-    let head = head_at(held.heads.profiles.as_slice(), place);
+    let heads = held.heads();
+    let head = head_at(heads.profiles.as_slice(), place);
+    let content = content_at(held.contents(), place);
     CopyRecord::Profile {
         head,
-        content: content_at(held.contents.as_slice(), place),
-        port: held.heads.ports.port_of(head.number),
+        files: content.files(),
+        pins: content.pins(),
+        port: heads.ports.port_of(head.number),
     }
 }
 
 // A record of the copy, by its place there.
-fn copied(held: &Durable, place: usize) -> CopyRecord<'_>
+fn copied(held: &HeldCard, place: usize) -> CopyRecord<'_>
     requires are { IsDurable held.now }
     requires place { place < length (copy_of held.now) }
     ensures { slice_get (copy_of held.now) place ≡ Some (record_of result) }
 {
     match place.checked_sub(1) {
-        None => CopyRecord::Card(&held.heads),
+        None => CopyRecord::Card(held.heads()),
         Some(place) => copied_profile(held, place),
     }
 }
 
 // Appends the rows of the copy to an erased bank, and returns the place behind them.
-fn append_copy<F: Flash>(flash: &mut F, idle: u8, held: &Durable) -> Result<u32, Failed>
+fn append_copy<F: Flash>(flash: &mut F, idle: u8, held: &HeldCard) -> Result<u32, Failed>
     requires bank { idle < 2 }
     requires are { IsDurable held.now }
     requires erased { IfSome (F.state flash.old).bytes
@@ -75,7 +79,7 @@ fn append_copy<F: Flash>(flash: &mut F, idle: u8, held: &Durable) -> Result<u32,
 {
     let bank = bank_of(idle);
     let mut at = BLOCK_LEN * bank.first;
-    'copies: for place in 0..held.heads.profiles.len() + 1 {
+    'copies: for place in 0..held.len() + 1 {
         let body = CopyBody::new(copied(held, place));
         at = append_row(flash, bank, at, &body)?;
     }
@@ -83,7 +87,7 @@ fn append_copy<F: Flash>(flash: &mut F, idle: u8, held: &Durable) -> Result<u32,
 }
 
 /// Erases the idle bank and writes the copy of a card there, and returns the place behind it.
-pub(crate) fn write_copy<F: Flash>(flash: &mut F, idle: u8, held: &Durable) -> Result<u32, Failed>
+pub(crate) fn write_copy<F: Flash>(flash: &mut F, idle: u8, held: &HeldCard) -> Result<u32, Failed>
     requires bank { idle < 2 }
     requires are { IsDurable held.now }
     ensures place { IfOk result (IsPlaceIn (bank_of idle)) }

@@ -12,6 +12,7 @@ mod copy;
 mod copy_body;
 mod erase;
 mod fault;
+mod held;
 mod laws;
 mod make;
 mod make_fault;

@@ -16,6 +16,7 @@ ghost use Rattle.record_codec.specs.declared.record.Record.TheVariants.{PutCard}
 
 use crate::append::bank_of;
 use crate::blank::first_used;
+use crate::held::HeldCard;
 use crate::{MakeFault, RecordBody};
 use flash_pages::{BLOCK_LEN, FLASH_LEN, Flash, append_row};
 use plain_lists::LongList;
@@ -29,9 +30,9 @@ const FIRST_NUMBER: u32 = 1100;
 const FIRST_NOTE: u64 = 1;
 
 /// A new card, and the place behind its row.
-#[derive(Debug, Drop)]
+#[derive(Drop)]
 pub(crate) struct Made {
-    pub held: Durable,
+    pub held: HeldCard,
     pub end: u32,
 }
 
@@ -86,7 +87,7 @@ fn first_record(alloc: Global, mode: PortMode, ports: u8, eid: [u8; 16]) -> Reco
 }
 
 // What a new card holds.
-fn new_card(
+fn begin_card(
     alloc: Global,
     entry: &Record,
     mode: PortMode,
@@ -102,6 +103,24 @@ fn new_card(
         Some(held) => Ok(held),
         None => unreachable!(),
     }
+}
+
+// What a new card holds, with room for its profiles.
+fn new_card(
+    alloc: Global,
+    entry: &Record,
+    mode: PortMode,
+    ports: u8,
+    eid: &[u8; 16],
+) -> Result<HeldCard, NoMemory>
+    requires ports { HasPorts mode ports }
+    requires first { entry.now ≡ PutCard mode ports eid.now 1100 1 [] }
+    ensures held { IfOk result (λ held. held ≡ made_card mode ports eid.now) }
+    ensures begun { IfOk result (λ held. IsBegun entry.now held) }
+{
+    let begun = begin_card(alloc, entry, mode, ports, eid)?;
+    let held = HeldCard::from_durable(alloc, begun)?;
+    Ok(held)
 }
 
 // Appends the first row of a card to bank 0 of a blank flash, and returns the place behind it.

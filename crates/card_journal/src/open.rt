@@ -4,33 +4,58 @@ ghost use Rattle.port_io.specs.Faults.{OnlyWhereRose};
 ghost use Rattle.card_journal.specs.CardStoreState.{CameBack};
 ghost use Rattle.card_journal.specs.Image.{HoldsCard, bank_of};
 ghost use Rattle.card_journal.specs.NotOpened.{fault_of};
-ghost use Rattle.card_journal.specs.Read.{OnlyReads};
+ghost use Rattle.card_journal.specs.Read.{BankHolds, OnlyReads};
 ghost use Rattle.card_journal.specs.StoreState.{HasNextByte, IsNotOpenedWorn, IsUsedUp, IsWorn};
 ghost use Rattle.card_journal.specs.StoreState.{OpensTorn};
 ghost use Rattle.card_journal.specs.Stored.{EndsClean, EndsTorn, HoldsEither};
 ghost use Rattle.card_journal.specs.Switched.{FromTo, IsSwitched, KeepsSwitchRow, copy_bodies};
-ghost use Rattle.flash_pages.specs.Bank.{IsPlaceIn};
-ghost use Rattle.flash_pages.specs.Flash.{GoesOn, IsSettled, MayLeaveOnly, Throughout};
+ghost use Rattle.flash_pages.specs.Bank.{IsPlaceIn, LiesInFlash};
+ghost use Rattle.flash_pages.specs.Flash.{GoesOn, IsSettled, MayLeaveOnly, Throughout, card_blocks};
 ghost use Rattle.record_codec.specs.IsDurable.{IsDurable};
 ghost use Rattle.record_codec.specs.declared.durable.Durable.{Durable};
 
 use crate::append::bank_of;
 use crate::blank::is_erased;
-use crate::reading::read_bank;
+use crate::held::HeldCard;
+use crate::reading::{Found, read_bank};
 use crate::switch::{SwitchFault, switch};
 use crate::{OpenFault, ReadFault};
-use flash_pages::{BLOCK_LEN, Flash, read_switch};
-use record_codec::Durable;
+use flash_pages::{BLOCK_LEN, Bank, Flash, read_switch};
 use std::alloc::Global;
 
 /// A card that was read from a flash: the live bank, the place behind its open rows, and whether
 /// the bank reads FF from there on.
-#[derive(Debug, Drop)]
+#[derive(Drop)]
 pub(crate) struct Opened {
-    pub held: Durable,
+    pub held: HeldCard,
     pub live: u8,
     pub end: u32,
     pub is_clean: bool,
+}
+
+// What was found in a bank, each content in a pool, and the place behind the last open row.
+#[derive(Drop)]
+struct Loaded {
+    held: HeldCard,
+    end: u32,
+}
+
+// Reads the rows of a bank, as `read_bank` does, and puts what they leave into pools.
+fn load_bank<F: Flash>(alloc: Global, flash: &mut F, bank: Bank) -> Result<Loaded, ReadFault>
+    requires { LiesInFlash card_blocks bank }
+    ensures found { IfOk result (λ found. IfSome (F.state flash.old).bytes
+        (λ image. BankHolds bank image found.held found.end)) }
+    ensures valid { IfOk result (λ found. IsDurable found.held) }
+    ensures place { IfOk result (λ found. IsPlaceIn bank found.end) }
+    ensures card { IsErrOf result ReadFault.NotACard → IfSome (F.state flash.old).bytes
+        (λ image. (held : Durable) (end : ℕ) → ¬ BankHolds bank image held end) }
+    ensures reads { OnlyReads (F.state flash.old) (F.state flash.new) }
+    ensures cause { OnlyWhereRose (IsErrOf result ReadFault.Flash) (F.state flash.old).faults
+        (F.state flash.new).faults }
+{
+    let Found { held, end } = read_bank(alloc, flash, bank)?;
+    let held = HeldCard::from_durable(alloc, held)?;
+    Ok(Loaded { held, end })
 }
 
 /// Reads the card that a flash holds. It returns NotACard exactly where it holds none.
@@ -53,7 +78,7 @@ pub(crate) fn read_card<F: Flash>(alloc: Global, flash: &mut F) -> Result<Opened
 {
     let live = read_switch(flash, 0)?.live;
     let bank = bank_of(live);
-    let found = read_bank(alloc, flash, bank)?;
+    let found = load_bank(alloc, flash, bank)?;
     let is_clean = is_erased(flash, found.end, BLOCK_LEN * (bank.first + bank.blocks))?;
     Ok(Opened {
         held: found.held,

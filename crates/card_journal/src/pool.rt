@@ -2,6 +2,7 @@
 mod compact;
 mod edit;
 mod file;
+mod fits;
 mod place;
 mod pooled;
 

@@ -3,6 +3,7 @@ ghost use Rattle.std.specs.Prelude.{IfErr, IfOk, IfSome, IsErrOf, IsOk, IsSome, 
 ghost use Rattle.port_io.specs.Faults.{FailsOnlyWhereRose, OnlyWhereRose};
 ghost use Rattle.card_journal.specs.CardStoreState.{CameBack};
 ghost use Rattle.card_journal.specs.CommitFault.{IsCauseOf};
+ghost use Rattle.card_journal.specs.Held.{PutsProfile, RoomIsFor};
 ghost use Rattle.card_journal.specs.Image.{HoldsCard, bank_of};
 ghost use Rattle.card_journal.specs.Made.{HasPorts, HoldsNoneOr, IsBlank, made_card};
 ghost use Rattle.card_journal.specs.MakeFault.{IsRefused};
@@ -20,21 +21,21 @@ ghost use Rattle.flash_pages.specs.Bank.{end_of};
 ghost use Rattle.flash_pages.specs.Flash.{GoesOn, IsSettled, LeavesOnly, MayLeaveOnly, Throughout};
 ghost use Rattle.record_codec.specs.Apply.{apply};
 ghost use Rattle.record_codec.specs.Heads.{IsHeld, held_content};
-ghost use Rattle.record_codec.specs.Room.{IsRoomFor};
 ghost use Rattle.record_codec.specs.Spelling.{spelling};
 ghost use Rattle.record_codec.specs.declared.durable.Durable.{Durable};
 
 use crate::append::{append_record, bank_of};
+use crate::held::HeldCard;
 use crate::make::make_card;
 use crate::next::makes_card;
 use crate::open::{open_card, reopen_card};
 use crate::switch::{SwitchFault, switch};
-use crate::{CommitFault, MakeFault, OpenFault};
+use crate::{CommitFault, MakeFault, OpenFault, PooledContent};
 use file_rows::Content;
 use flash_pages::{BLOCK_LEN, Back, Flash};
 use port_io::Failed;
 use port_table::PortMode;
-use record_codec::{Durable, Heads, NoMemory, Record, Room, record_len};
+use record_codec::{Heads, NoMemory, Record, record_len};
 use std::alloc::Global;
 
 // A row's gate and length.
@@ -45,7 +46,7 @@ const ROW_HEAD_LEN: u32 = 5;
 #[derive(Drop)]
 pub struct BankStore<F> {
     flash: F,
-    held: Durable,
+    held: HeldCard,
     live: u8,
     end: u32,
     unrepaired: Option<Record>,
@@ -185,7 +186,7 @@ impl<F: Flash> BankStore<F> {
             (F.state self.new.flash).faults) }
     {
         let before = self.flash.faults();
-        match reopen_card(self.held.contents.allocator(), &mut self.flash) {
+        match reopen_card(self.held.allocator(), &mut self.flash) {
             Ok(opened) => {
                 self.held = opened.held;
                 self.live = opened.live;
@@ -201,7 +202,7 @@ impl<F: Flash> BankStore<F> {
     pub fn heads(&self) -> &Heads
         ensures { result.now ≡ self.now.held.heads }
     {
-        &self.held.heads
+        self.held.heads()
     }
 
     /// Whether `commit` may be given the record. It takes no memory.
@@ -219,7 +220,7 @@ impl<F: Flash> BankStore<F> {
         ensures { IfOk result (λ content. held_content profile self.now.held ≡ Some content) }
     {
         match self.held.content(profile) {
-            Some(content) => content.copy(),
+            Some(content) => content.to_content(),
             None => unreachable!(),
         }
     }
@@ -348,11 +349,16 @@ impl<F: Flash> BankStore<F> {
     }
 
     // Appends a record for which there is room in the live bank, and carries it out in memory.
-    fn append(&mut self, entry: &Record, room: Room, copy: Record) -> Result<(), Failed>
+    fn append(
+        &mut self,
+        entry: &Record,
+        room: Option<PooledContent>,
+        copy: Record,
+    ) -> Result<(), Failed>
         requires usable { IsUsable (store_of F.state self.old) }
         requires repaired { self.old.unrepaired ≡ None }
         requires takes { MayCommit self.old.held entry.now }
-        requires room { IsRoomFor self.old.held entry.now room }
+        requires room { RoomIsFor entry.now room }
         requires copied { copy ≡ entry.now }
         requires fits { RowHasRoom (store_of F.state self.old) entry.now }
 
@@ -391,12 +397,12 @@ impl<F: Flash> BankStore<F> {
     fn commit_reserved(
         &mut self,
         entry: &Record,
-        room: Room,
+        room: Option<PooledContent>,
         copy: Record,
     ) -> Result<(), SwitchFault>
         requires usable { IsUsable (store_of F.state self.old) }
         requires takes { MayCommit self.old.held entry.now }
-        requires room { IsRoomFor self.old.held entry.now room }
+        requires room { RoomIsFor entry.now room }
         requires copied { copy ≡ entry.now }
         ensures usable { IsUsable (store_of F.state self.new) }
         ensures done { OnOk result ((self.new.held ≡ apply self.old.held entry.now)
@@ -434,7 +440,8 @@ impl<F: Flash> BankStore<F> {
     /// makes of the card, whatever happens next. A refusal leaves what is held as it was; after
     /// Flash a power cut may yet leave the record on the flash, and the next commit switches to
     /// the other bank first. So does a commit whose row has no room in the live bank. A commit
-    /// that needs no switch programs the record's row alone.
+    /// that needs no switch programs the record's row alone. It streams the row, and a switch its
+    /// copy, from what is held in memory, and takes memory for one more profile alone.
     pub fn commit(&mut self, entry: &Record) -> Result<(), CommitFault>
         requires usable { IsUsable (store_of F.state self.old) }
         requires takes { MayCommit self.old.held entry.now }
@@ -460,14 +467,15 @@ impl<F: Flash> BankStore<F> {
             → HasNextByte (F.state self.old.flash)) }
         ensures worn { IsErrOf result CommitFault.Worn → IsRefusedWorn
             (store_of F.state self.old) (store_of F.state self.new) entry.now }
-        ensures memory { IsErrOf result CommitFault.NoMemory → self.new ≡ self.old }
+        ensures memory { IsErrOf result CommitFault.NoMemory
+            → (self.new ≡ self.old) × PutsProfile entry.now }
         ensures time { GoesOn (F.state self.old.flash) (F.state self.new.flash) }
         ensures cause { IfErr result (IsCauseOf (F.state self.old.flash).faults
             (F.state self.new.flash).faults) }
     {
         let before = self.flash.faults();
         let room = self.held.reserve(entry)?;
-        let copy = entry.copy(self.held.contents.allocator())?;
+        let copy = entry.copy(self.held.allocator())?;
         match self.commit_reserved(entry, room, copy) {
             Ok(()) => Ok(()),
             Err(SwitchFault::Worn) => Err(CommitFault::Worn),

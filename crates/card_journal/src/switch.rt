@@ -13,9 +13,9 @@ ghost use Rattle.record_codec.specs.IsDurable.{IsDurable};
 ghost use Rattle.record_codec.specs.declared.durable.Durable.{Durable};
 
 use crate::copy::write_copy;
+use crate::held::HeldCard;
 use flash_pages::{Flash, read_switch};
 use port_io::Failed;
-use record_codec::Durable;
 
 const OPEN: u8 = 0x00;
 
@@ -43,7 +43,7 @@ pub(crate) struct Live {
 
 /// Writes the copy of what a card holds into the idle bank, and makes that bank the live one. At
 /// each moment a flash that holds this, or something else, holds one of them.
-pub(crate) fn switch<F: Flash>(flash: &mut F, held: &Durable) -> Result<Live, SwitchFault>
+pub(crate) fn switch<F: Flash>(flash: &mut F, held: &HeldCard) -> Result<Live, SwitchFault>
     requires { IsDurable held.now }
     ensures throughout { (other : Durable)
         → MayLeaveOnly (F.state flash.old) (HoldsEither held.now other)

@@ -1,7 +1,6 @@
 -- Contents that go, one after the other.
 use Rattle.std.proofs.Common.{◌≡◌, ℕ, zero, suc, ◌+◌, ◌<◌, Bool, true, false, cond, List, [], ◌∷◌, ◌++◌, length, take, drop, get_or, min, refl, sym, ◌∙◌, ap, arith}
 use Rattle.std.proofs.lemmas.List.{append-nil, append_assoc, drop_at, length-append, length-take, take_at, take_more}
-use Rattle.file_rows.specs.declared.content.Content.{Content}
 use Rattle.record_codec.specs.Gone.{contents_without, is_among}
 use Rattle.record_codec.specs.declared.profile.ProfileHead.{ProfileHead}
 use Rattle.record_codec.proofs.HeldLemmas.{without_more}
@@ -29,13 +28,13 @@ passed true front rest now x place is at =
 passed false front rest now x place is at =
     (is ∙ sym (append_assoc front (x ∷ []) rest), omega (arith, at, length-append front (x ∷ [])))
 
-module _ (numbers : List ℕ) (profiles : List ProfileHead) (contents : List Content) (i : ℕ) (head : ProfileHead) (within : i < length profiles)
+module _ {X : Type 0} (numbers : List ℕ) (profiles : List ProfileHead) (contents : List X) (i : ℕ) (head : ProfileHead) (within : i < length profiles)
     (pairs : length contents ≡ length profiles) (at : head ≡ get_or profiles i head) where
-  abbrev front : ℕ → List Content
+  abbrev front : ℕ → List X
   front j = contents_without numbers (take j profiles) (take j contents)
 
   -- one profile more has gone by
-  pub pass_one : (now : List Content) (place : ℕ) → now ≡ front i ++ drop i contents → place ≡ length (front i)
+  pub pass_one : (now : List X) (place : ℕ) → now ≡ front i ++ drop i contents → place ≡ length (front i)
       → (cond (is_among numbers head.number) (take place now ++ drop (place + 1) now) now ≡ front (i + 1) ++ drop (i + 1) contents)
       × (cond (is_among numbers head.number) place (place + 1) ≡ length (front (i + 1)))
   pass_one now place so_far is_place =
@@ -46,8 +45,8 @@ module _ (numbers : List ℕ) (profiles : List ProfileHead) (contents : List Con
       let heads : take (i + 1) profiles ≡ take i profiles ++ head ∷ [] = take_more profiles i head within ∙ ap (λ (h : ProfileHead). take i profiles ++ h ∷ []) (sym at) in
       let next : front (i + 1) ≡ front i ++ cond goes [] (x ∷ []) =
       ap (λ (hs : List ProfileHead). contents_without numbers hs (take (i + 1) contents)) heads
-      ∙ ap (λ (cs : List Content). contents_without numbers (take i profiles ++ head ∷ []) cs) item.2
+      ∙ ap (λ (cs : List X). contents_without numbers (take i profiles ++ head ∷ []) cs) item.2
       ∙ without_more numbers (take i profiles) (take i contents) head x (length-take i contents ∙ ap (λ (n : ℕ). min i n) pairs ∙ sym (length-take i profiles))
       in
-      let one = passed goes (front i) rest now x place (so_far ∙ ap (λ (cs : List Content). front i ++ cs) item.1) is_place in
-      (one.0 ∙ sym (ap (λ (f : List Content). f ++ rest) next), one.1 ∙ sym (ap length next))
+      let one = passed goes (front i) rest now x place (so_far ∙ ap (λ (cs : List X). front i ++ cs) item.1) is_place in
+      (one.0 ∙ sym (ap (λ (f : List X). f ++ rest) next), one.1 ∙ sym (ap length next))

@@ -190,7 +190,7 @@ left_held numbers number (head ∷ heads) other held =
     (any_cases (λ head. head.number ≡ number) head heads held)
 
 -- where no profile has the number, there is no content
-no_content : (number : ℕ) (profiles : List ProfileHead) (contents : List Content) → AllByRecursion (λ head. head.number ≢ number) profiles → content_at number profiles contents ≡ None
+no_content : {X : Type 0} (number : ℕ) (profiles : List ProfileHead) (contents : List X) → AllByRecursion (λ head. head.number ≢ number) profiles → content_at number profiles contents ≡ None
 no_content number [] contents each = refl
 no_content number (head ∷ heads) [] each = refl
 no_content number (head ∷ heads) (content ∷ contents) each =
@@ -201,7 +201,7 @@ no_content number (head ∷ heads) (content ∷ contents) each =
     ]
     in step (nat_eq head.number number) refl
 
-pub content_none : (number : ℕ) (profiles : List ProfileHead) (contents : List Content) → (IsHeld number profiles → ⊥) → content_at number profiles contents ≡ None
+pub content_none : {X : Type 0} (number : ℕ) (profiles : List ProfileHead) (contents : List X) → (IsHeld number profiles → ⊥) → content_at number profiles contents ≡ None
 content_none number profiles contents none = no_content number profiles contents (each_not (λ head. head.number ≡ number) profiles none)
 
 -- a place of a number is not that of another profile
@@ -212,7 +212,7 @@ later_other head number zero (other ∷ heads) each at e = each.0 (e ∙ sym at)
 later_other head number (suc place) (other ∷ heads) each at e = later_other head number place heads each.1 at e
 
 -- the content of a profile stands at its place
-pub content_there : (number place : ℕ) (profiles : List ProfileHead) (contents : List Content) → length contents ≡ length profiles → EachTwo HasOther profiles
+pub content_there : {X : Type 0} (number place : ℕ) (profiles : List ProfileHead) (contents : List X) → length contents ≡ length profiles → EachTwo HasOther profiles
     → IsSomeAnd (slice_get profiles place) (λ head. head.number ≡ number) → content_at number profiles contents ≡ slice_get contents place
 content_there number place [] contents pairs differ at = absurd at
 content_there number place (head ∷ heads) [] pairs differ at = absurd (omega (arith, pairs))
@@ -255,21 +255,21 @@ contents_there number change (suc place) (head ∷ heads) (its ∷ contents) con
     (ap (λ (rest : List Content). its ∷ rest) (contents_there number change place heads contents content (omega (arith, pairs)) differ.1 at is))
 
 -- the contents left of one profile more
-pub without_more : (numbers : List ℕ) (heads : List ProfileHead) (contents : List Content) (head : ProfileHead) (content : Content) → length contents ≡ length heads
+pub without_more : {X : Type 0} (numbers : List ℕ) (heads : List ProfileHead) (contents : List X) (head : ProfileHead) (content : X) → length contents ≡ length heads
     → contents_without numbers (heads ++ head ∷ []) (contents ++ content ∷ [])
     ≡ contents_without numbers heads contents ++ cond (is_among numbers head.number) [] (content ∷ [])
 without_more numbers [] [] head content pairs = refl
 without_more numbers [] (its ∷ contents) head content pairs = absurd (omega (arith, pairs))
 without_more numbers (one ∷ heads) [] head content pairs = absurd (omega (arith, pairs))
-without_more numbers (one ∷ heads) (its ∷ contents) head content pairs =
+without_more {X} numbers (one ∷ heads) (its ∷ contents) head content pairs =
     let rest = without_more numbers heads contents head content (omega (arith, pairs)) in
-    let last : List Content = cond (is_among numbers head.number) [] (content ∷ []) in
-    let left : List Content = contents_without numbers heads contents in
-    let all : List Content = contents_without numbers (heads ++ head ∷ []) (contents ++ content ∷ []) in
+    let last : List X = cond (is_among numbers head.number) [] (content ∷ []) in
+    let left : List X = contents_without numbers heads contents in
+    let all : List X = contents_without numbers (heads ++ head ∷ []) (contents ++ content ∷ []) in
     let step : (b : Bool) → cond b all (its ∷ all) ≡ cond b left (its ∷ left) ++ last
     = λ b. elim b as (λ b. cond b all (its ∷ all) ≡ cond b left (its ∷ left) ++ last) [
       | true ↦ rest
-      | false ↦ ap (λ (cs : List Content). its ∷ cs) rest
+      | false ↦ ap (λ (cs : List X). its ∷ cs) rest
     ]
     in step (is_among numbers one.number)
 

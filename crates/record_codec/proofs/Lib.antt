@@ -8,6 +8,7 @@ pub mod HeldLemmas
 pub mod LengthLemmas
 pub mod LocalLemmas
 pub mod LoopLemmas
+pub mod PooledLemmas
 pub mod PortLemmas
 pub mod ReadLemmas
 pub mod RecordTakes

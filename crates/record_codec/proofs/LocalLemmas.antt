@@ -14,7 +14,7 @@ use Rattle.record_codec.specs.declared.record.Record.{Record}
 use Rattle.record_codec.specs.declared.record.Record.TheVariants as records
 
 module _ (number : ℕ) where
-  no_content : (heads : List ProfileHead) → content_at number heads [] ≡ None
+  no_content : (heads : List ProfileHead) → content_at {X = Content} number heads [] ≡ None
   no_content [] = refl
   no_content (head ∷ heads) = refl
 

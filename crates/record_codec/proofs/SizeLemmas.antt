@@ -20,7 +20,8 @@ pub few : (rows : List FileRow) → 32 * length rows ≤ use_of rows
 few [] = omega arith
 few (row ∷ rows) = omega (arith, few rows, sum_by-cons (λ (r : FileRow). length r.body + 32) row rows)
 
-bodies : (content : Content) → IsValid content → AllByRecursion (λ (row : FileRow). length row.body ≡ row.head.size) content.rows
+-- the bodies of a valid content are as long as their heads say
+pub bodies : (content : Content) → IsValid content → AllByRecursion (λ (row : FileRow). length row.body ≡ row.head.size) content.rows
 bodies content valid = ⊎_elim
     (λ empty. subst (AllByRecursion (λ (row : FileRow). length row.body ≡ row.head.size)) (sym empty.rows) tt)
     (λ system. system.files.bodies)

@@ -1,6 +1,7 @@
 -- A record of a card's copy.
 use Rattle.std.specs.Prelude.{ℕ, false, Option}
 use Rattle.file_rows.specs.declared.content.Content.{Content}
+use Rattle.record_codec.specs.Pooled.{pooled_content}
 use Rattle.record_codec.specs.declared.copy_record.CopyRecord.{CopyRecord}
 use Rattle.record_codec.specs.declared.copy_record.CopyRecord.TheVariants as copies
 use Rattle.record_codec.specs.declared.durable.Heads.{Heads}
@@ -21,4 +22,5 @@ profile_record head content port =
 
 abbrev pub record_of : CopyRecord → Record
 record_of (copies.Card heads) = card_record heads.now
-record_of (copies.Profile head content port) = profile_record head.now content.now port
+record_of (copies.Profile head files pins port) =
+    profile_record head.now (pooled_content files pins.now) port

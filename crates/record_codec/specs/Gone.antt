@@ -1,7 +1,6 @@
 -- Profiles that go.
 use Rattle.std.specs.Prelude.{ℕ, Bool, false, not, ◌≢◌, ◌==◌, ◌||◌, if◌then◌else◌, List, [], ◌∷◌, filter}
 use Rattle.std.specs.List.{AllByRecursion}
-use Rattle.file_rows.specs.declared.content.Content.{Content}
 use Rattle.notify_list.specs.declared.note.Operation.TheVariants.{Delete}
 use Rattle.plain_lists.specs.EachTwo.{EachTwo}
 use Rattle.port_table.specs.Ports.{unbound}
@@ -17,7 +16,7 @@ is_among [] number = false
 is_among (one ∷ numbers) number = (one == number) || is_among numbers number
 
 -- the contents of the profiles that stay
-abbrev pub contents_without : List ℕ → List ProfileHead → List Content → List Content
+abbrev pub contents_without : {X : Type 0} → List ℕ → List ProfileHead → List X → List X
 contents_without numbers [] contents = contents
 contents_without numbers (head ∷ heads) [] = []
 contents_without numbers (head ∷ heads) (content ∷ contents) =

@@ -13,7 +13,7 @@ abbrev pub IsHeld : ℕ → List ProfileHead → Type 0
 IsHeld number profiles = Any (λ head. head.number ≡ number) profiles
 
 -- the content at the place of the profile of that number
-abbrev pub content_at : ℕ → List ProfileHead → List Content → Option Content
+abbrev pub content_at : {X : Type 0} → ℕ → List ProfileHead → List X → Option X
 content_at number [] contents = None
 content_at number (head ∷ heads) [] = None
 content_at number (head ∷ heads) (content ∷ contents) =

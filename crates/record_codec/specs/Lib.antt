@@ -15,6 +15,7 @@ pub mod Local
 pub mod Name
 pub mod NoteGone
 pub mod Noted
+pub mod Pooled
 pub mod PutCard
 pub mod PutProfile
 pub mod Reading

@@ -85,3 +85,14 @@ NeedsMemory (Unbind profile) = ⊥
 NeedsMemory (Gone profiles) = ⊥
 NeedsMemory (Name profile nickname) = ⊥
 NeedsMemory (NoteGone number) = ⊥
+
+-- the record has lists that take memory: a card's notifications, or a profile's files and PINs
+abbrev pub HasLists : Record → Type 0
+HasLists (PutCard mode ports eid next_number next_note notes) = ⊤
+HasLists (PutProfile installation profile port) = ⊤
+HasLists (Content profile change) = ⊥
+HasLists (Bind profile port displaced) = ⊥
+HasLists (Unbind profile) = ⊥
+HasLists (Gone profiles) = ⊥
+HasLists (Name profile nickname) = ⊥
+HasLists (NoteGone number) = ⊥

@@ -1,5 +1,5 @@
 // Carrying out a record.
-ghost use Rattle.std.specs.Prelude.{◌≡◌, ◌≢◌, ◌<◌, ◌+◌, ◌++◌, ◌∷◌, [], if◌then◌else◌, length, take, drop, IsSomeAnd, slice_get, slice_set};
+ghost use Rattle.std.specs.Prelude.{◌≡◌, ◌≢◌, ◌<◌, ◌+◌, ◌++◌, ◌∷◌, [], if◌then◌else◌, length, take, drop, IsSomeAnd, slice_get, slice_set, vec_capacity};
 ghost use Rattle.plain_lists.specs.EachTwo.{EachTwo};
 ghost use Rattle.file_rows.specs.Change.{Fits, changed};
 ghost use Rattle.file_rows.specs.Content.{IsValid};
@@ -51,10 +51,11 @@ fn change_content_of(
 }
 
 // Takes away the content at a place, if it goes, and returns the place of the next one.
-fn pass_content(goes: bool, place: usize, contents: &mut Vec<Content>) -> usize
+fn pass_content<T: Drop>(goes: bool, place: usize, contents: &mut Vec<T>) -> usize
     requires { place < length contents.old.items }
     ensures items { contents.new.items ≡ (if goes then take place contents.old.items
         ++ drop (place + 1) contents.old.items else contents.old.items) }
+    ensures room { vec_capacity contents.new ≡ vec_capacity contents.old }
     ensures next { result ≡ (if goes then place else place + 1) }
 {
     if goes {
@@ -65,10 +66,12 @@ fn pass_content(goes: bool, place: usize, contents: &mut Vec<Content>) -> usize
     }
 }
 
-// Takes away the contents of these profiles.
-fn drop_contents(numbers: &Numbers, profiles: &[ProfileHead], contents: &mut Vec<Content>)
+/// Takes away the contents of these profiles, from those of all profiles in their order.
+pub fn drop_contents<T: Drop>(numbers: &Numbers, profiles: &[ProfileHead], contents: &mut Vec<T>)
     requires { length contents.old.items ≡ length profiles.now }
-    ensures { contents.new.items ≡ contents_without numbers.now profiles.now contents.old.items }
+    ensures left { contents.new.items
+        ≡ contents_without numbers.now profiles.now contents.old.items }
+    ensures room { vec_capacity contents.new ≡ vec_capacity contents.old }
 {
     let mut place = 0;
     for head in profiles {

@@ -1,5 +1,5 @@
-use crate::{Heads, ProfileHead};
-use file_rows::Content;
+use crate::{Heads, PooledFiles, ProfileHead};
+use file_rows::PinRow;
 
 /// A record of a card's copy, which is written from the card as it is held: the card that the
 /// other records follow, or one of its profiles, on its port or on none.
@@ -8,7 +8,8 @@ pub enum CopyRecord<'a> {
     Card(&'a Heads),
     Profile {
         head: &'a ProfileHead,
-        content: &'a Content,
+        files: PooledFiles<'a>,
+        pins: &'a [PinRow],
         port: Option<u8>,
     },
 }

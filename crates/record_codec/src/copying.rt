@@ -7,7 +7,7 @@ ghost use Rattle.record_codec.specs.Window.{Puts};
 
 use crate::copy_record::CopyRecord;
 use crate::window::Place;
-use crate::writing::{put_profile, put_put_card};
+use crate::writing::{put_pooled_profile, put_put_card};
 
 fn put_copied(entry: &CopyRecord<'_>, place: &mut Place, out: &mut [u8])
     requires { HasSizes (record_of entry.now) }
@@ -27,9 +27,10 @@ fn put_copied(entry: &CopyRecord<'_>, place: &mut Place, out: &mut [u8])
         ),
         CopyRecord::Profile {
             head,
-            content,
+            files,
+            pins,
             port,
-        } => put_profile(false, head, content, *port, place, out),
+        } => put_pooled_profile(head, files, pins, *port, place, out),
     }
 }
 

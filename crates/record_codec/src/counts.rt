@@ -51,6 +51,7 @@ pub fn head_of(number: u16, profiles: &[ProfileHead]) -> Option<&ProfileHead>
     None
 }
 
+/// Whether a profile of that number is among these.
 pub fn is_held(number: u16, profiles: &[ProfileHead]) -> bool
     ensures { IsTrue result ↔ IsHeld number profiles.now }
 {

@@ -10,7 +10,7 @@ ghost use Rattle.record_codec.specs.Takes.{TakesContent};
 use crate::{Durable, ProfileHead, Record};
 use file_rows::{Change, Content};
 
-// The place of the profile of that number among the others, counted from 0.
+/// The place of the profile of that number among the others, counted from 0.
 pub fn place_of(number: u16, profiles: &[ProfileHead]) -> Option<usize>
     ensures found { IfSome result (λ place.
         IsSomeAnd (slice_get profiles.now place) (λ head. head.number ≡ number)) }
@@ -24,19 +24,15 @@ pub fn place_of(number: u16, profiles: &[ProfileHead]) -> Option<usize>
     None
 }
 
-fn content_in(contents: &[Content], place: usize) -> &Content
+fn content_in<T>(contents: &[T], place: usize) -> &T
     requires { place < length contents.now }
     ensures { slice_get contents.now place ≡ Some result.now }
 {
     &contents[place]
 }
 
-// The content of the profile of that number.
-pub fn content_of<'a>(
-    number: u16,
-    profiles: &[ProfileHead],
-    contents: &'a [Content],
-) -> Option<&'a Content>
+/// The content of the profile of that number, from those of all profiles in their order.
+pub fn content_of<'a, T>(number: u16, profiles: &[ProfileHead], contents: &'a [T]) -> Option<&'a T>
     requires pairs { length contents.now ≡ length profiles.now }
     requires numbers { EachTwo (λ one other. one.number ≢ other.number) profiles.now }
     ensures found { IfSome result (λ content.

@@ -16,6 +16,7 @@ mod laws;
 mod lists;
 mod notes_fit;
 mod noting;
+mod pooled;
 mod profile;
 mod put;
 mod put_change;
@@ -29,16 +30,20 @@ mod takes;
 mod window;
 mod writing;
 
+pub use apply::drop_contents;
 pub use content_change::set_in_pins;
 pub use copy_record::CopyRecord;
 pub use copying::{copy_record_len, put_copy_record};
+pub use counts::is_held;
 pub use durable::{Durable, Heads, ProfileList};
 pub use fault::RecordFault;
 pub use file_change::{put_bytes, write_bytes};
+pub use fits::{content_of, place_of};
 pub use laws::{
     codings_are_unique, fitting_records_are_short, fitting_records_have_sizes,
     reading_is_of_codings, records_are_local, records_fit_by_kind,
 };
+pub use pooled::PooledFiles;
 pub use profile::{BoxedProfile, Label, NoteTarget, Profile, ProfileHead, Provider, Targets};
 pub use reading::read_record;
 pub use record::{Numbers, Record};

@@ -1,5 +1,5 @@
 // Records as bytes, field by field.
-ghost use Rattle.std.specs.Prelude.{◌≡◌, ◌<◌, ◌≤◌, ◌^◌, length, IfSome, Option};
+ghost use Rattle.std.specs.Prelude.{◌≡◌, ◌<◌, ◌≤◌, ◌^◌, length, take, IfSome, Option};
 ghost use Rattle.std.specs.List.{AllByRecursion, flat_map};
 ghost use Rattle.record_codec.specs.Fields.{◌&◌, byte, list, number2, option, path, string};
 ghost use Rattle.record_codec.specs.Sizes.{IsByte, IsChange, HasFileSizes, IsFileHead, IsForm, IsList, IsNote, IsNumber2, IsPath, HasPinSizes, IsProfileHead, IsPuk, IsRule, IsString, IsTarget};
@@ -10,7 +10,7 @@ use crate::window::{Place, put, put_byte, put_flag, put_number2, put_number4, pu
 use crate::{NoteTarget, ProfileHead, Targets};
 use file_rows::{Change, FileHead, FileRow, Kind, Life, Path, PinRow, Puk, Rule};
 use notify_list::{Note, Operation};
-use plain_lists::{LongList, ShortList};
+use plain_lists::ShortList;
 use port_table::PortMode;
 
 fn mode_byte(mode: PortMode) -> u8
@@ -148,12 +148,25 @@ pub fn put_file_head(head: &FileHead, place: &mut Place, out: &mut [u8])
     put_number2(head.size, place, out);
 }
 
-fn put_body(body: &LongList<u8>, size: u16, place: &mut Place, out: &mut [u8])
+fn put_body(body: &[u8], size: u16, place: &mut Place, out: &mut [u8])
     requires { length body.now ≡ size }
     ensures puts { Puts (string body.now) place.old out.old place.new out.new }
     ensures size { IsString 65535 body.now }
 {
-    put_string(body.as_slice(), place, out);
+    put_string(body, place, out);
+}
+
+// Puts a file whose body is cut off the bytes.
+pub fn put_cut_file(head: &FileHead, bytes: &[u8], place: &mut Place, out: &mut [u8])
+    requires { head.now.size ≤ length bytes.now }
+    ensures puts { Puts (file (record { head = head.now; body = take head.now.size bytes.now }))
+        place.old out.old place.new out.new }
+    ensures sizes { HasFileSizes
+        (record { head = head.now; body = take head.now.size bytes.now }) }
+{
+    let body = &bytes[..usize::from(head.size)];
+    put_form(head, place, out);
+    put_body(body, head.size, place, out);
 }
 
 pub fn put_file(row: &FileRow, place: &mut Place, out: &mut [u8])
@@ -162,7 +175,7 @@ pub fn put_file(row: &FileRow, place: &mut Place, out: &mut [u8])
     ensures sizes { HasFileSizes row.now }
 {
     put_form(&row.head, place, out);
-    put_body(&row.body, row.head.size, place, out);
+    put_body(row.body.as_slice(), row.head.size, place, out);
 }
 
 fn put_puk(its: &Puk, place: &mut Place, out: &mut [u8])

@@ -1,4 +1,5 @@
-ghost use Rattle.std.specs.Prelude.{◌≡◌, IfOk};
+ghost use Rattle.std.specs.Prelude.{◌≡◌, IfOk, OnErr};
+ghost use Rattle.record_codec.specs.Room.{HasLists};
 
 use crate::{BoxedProfile, Label, NoMemory};
 use file_rows::Change;
@@ -70,9 +71,11 @@ fn copy_notes(alloc: Global, notes: &[Note]) -> Result<Vec<Note>, NoMemory>
 }
 
 impl Record {
-    /// A copy of the record, on this allocator.
+    /// A copy of the record, on this allocator. Only a card's notifications, and a profile's files
+    /// and PINs, take memory.
     pub fn copy(&self, alloc: Global) -> Result<Self, NoMemory>
-        ensures { IfOk result (λ entry. entry ≡ self.now) }
+        ensures copied { IfOk result (λ entry. entry ≡ self.now) }
+        ensures only { OnErr result (HasLists self.now) }
     {
         Ok(match self {
             Record::PutCard {

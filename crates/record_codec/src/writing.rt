@@ -1,15 +1,17 @@
 // Records as bytes, from any place on.
-ghost use Rattle.std.specs.Prelude.{◌≡◌, ◌≤◌, ◌<◌, ◌-◌, ◌^◌, ◌++◌, length, take, drop, min, IfSome};
+ghost use Rattle.std.specs.Prelude.{◌≡◌, ◌≤◌, ◌<◌, ◌-◌, ◌^◌, ◌++◌, length, take, drop, min, false, IfSome};
 ghost use Rattle.std.specs.List.{AllByRecursion, flat_map};
 ghost use Rattle.record_codec.specs.Fields.{◌&◌, byte, flag, list, number2, number4, number8, option, plain, string};
+ghost use Rattle.record_codec.specs.Pooled.{files_of};
 ghost use Rattle.record_codec.specs.Sizes.{Codes, HasCoding, HasSizes, IsByte, IsChange, HasFileSizes, IsList, IsNote, IsNumber2, IsNumber4, IsNumber8, HasPinSizes, IsPlain, IsProfileHead, IsString};
 ghost use Rattle.record_codec.specs.Spelling.{change, file, mode, note, pin, profile_head, spelling};
 ghost use Rattle.record_codec.specs.Window.{Puts};
 
+use crate::pooled::put_pooled_list;
 use crate::put::{put_file, put_mode, put_note, put_numbers, put_pin, put_profile_head, put_text};
 use crate::put_change::put_change;
 use crate::window::{Place, put, put_byte, put_flag, put_number2, put_number4, put_number8};
-use crate::{Label, Numbers, ProfileHead, Record};
+use crate::{Label, Numbers, PooledFiles, ProfileHead, Record};
 use file_rows::{Change, Content, FileRow, PinRow};
 use notify_list::Note;
 use plain_lists::LongList;
@@ -52,13 +54,13 @@ fn put_note_list(notes: &[Note], place: &mut Place, out: &mut [u8])
     put_notes(notes, place, out);
 }
 
-fn put_pin_list(pins: &LongList<PinRow>, place: &mut Place, out: &mut [u8])
+fn put_pin_list(pins: &[PinRow], place: &mut Place, out: &mut [u8])
     requires { length pins.now ≤ 65535 }
     ensures puts { Puts (list pin pins.now) place.old out.old place.new out.new }
     ensures sizes { IsList 65535 HasPinSizes pins.now }
 {
     put_number2(pins.len() as u16, place, out);
-    put_pins(pins.as_slice(), place, out);
+    put_pins(pins, place, out);
 }
 
 fn put_file_list(rows: &LongList<FileRow>, place: &mut Place, out: &mut [u8])
@@ -133,7 +135,25 @@ fn put_card_notes(
     put_note_list(notes, place, out);
 }
 
-pub(crate) fn put_profile(
+// Puts all of a profile's record before its files.
+fn put_profile_front(
+    installation: bool,
+    head: &ProfileHead,
+    port: Option<u8>,
+    place: &mut Place,
+    out: &mut [u8],
+)
+    ensures puts { Puts (byte 2 & flag installation & profile_head head.now & option byte port)
+        place.old out.old place.new out.new }
+    ensures sizes { IsProfileHead head.now × IfSome port IsByte }
+{
+    put_byte(2, place, out);
+    put_flag(installation, place, out);
+    put_profile_head(head, place, out);
+    put_port_option(port, place, out);
+}
+
+fn put_profile(
     installation: bool,
     head: &ProfileHead,
     content: &Content,
@@ -153,12 +173,33 @@ pub(crate) fn put_profile(
         × IsList 65535 HasFileSizes content.now.rows
         × IsList 65535 HasPinSizes content.now.pins }
 {
-    put_byte(2, place, out);
-    put_flag(installation, place, out);
-    put_profile_head(head, place, out);
-    put_port_option(port, place, out);
+    put_profile_front(installation, head, port, place, out);
     put_file_list(&content.rows, place, out);
-    put_pin_list(&content.pins, place, out);
+    put_pin_list(content.pins.as_slice(), place, out);
+}
+
+// Puts a profile that was held before, whose files are these.
+pub(crate) fn put_pooled_profile(
+    head: &ProfileHead,
+    files: &PooledFiles<'_>,
+    pins: &[PinRow],
+    port: Option<u8>,
+    place: &mut Place,
+    out: &mut [u8],
+)
+    requires files { length (files_of files.now) ≤ 65535 }
+    requires pins { length pins.now ≤ 65535 }
+    requires bodies { AllByRecursion
+        (λ row. length row.body ≡ row.head.size) (files_of files.now) }
+    ensures puts { Puts (byte 2 & flag false & profile_head head.now & option byte port
+        & list file (files_of files.now) & list pin pins.now)
+        place.old out.old place.new out.new }
+    ensures sizes { IsProfileHead head.now × IfSome port IsByte
+        × IsList 65535 HasFileSizes (files_of files.now) × IsList 65535 HasPinSizes pins.now }
+{
+    put_profile_front(false, head, port, place, out);
+    put_pooled_list(files, place, out);
+    put_pin_list(pins, place, out);
 }
 
 fn put_content(profile: u16, its: &Change, place: &mut Place, out: &mut [u8])

@@ -2,7 +2,7 @@
 ghost use Rattle.std.specs.Prelude.{◌≡◌, ◌≤◌, ◌<◌, ◌^◌, ◌+◌, if◌then◌else◌, not, filter, length, vec_capacity};
 ghost use Rattle.std.specs.List.{copy_within, flat_map};
 ghost use Rattle.file_rows.specs.Path.{stands_below};
-ghost use Rattle.card_journal.specs.Pool.{pooled_rows, pooled_size};
+ghost use Rattle.record_codec.specs.Pooled.{pooled_rows, pooled_size};
 
 use file_rows::{FileHead, Path, PinRow};
 

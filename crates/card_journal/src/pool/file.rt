@@ -3,7 +3,8 @@ ghost use Rattle.std.specs.Prelude.{◌≡◌, ◌≢◌, ◌<◌, ◌≤◌, �
 ghost use Rattle.plain_lists.specs.EachTwo.{EachTwo};
 ghost use Rattle.file_rows.specs.Change.{file_after, with_body, with_file, with_size};
 ghost use Rattle.file_rows.specs.Content.{file_at};
-ghost use Rattle.card_journal.specs.Pool.{CanWrite, HasSizeRoom, body_after, pooled_rows, pooled_size};
+ghost use Rattle.card_journal.specs.Pool.{CanWrite, HasSizeRoom, body_after};
+ghost use Rattle.record_codec.specs.Pooled.{pooled_rows, pooled_size};
 
 use crate::pool::edit::{resize_at, write_at};
 use crate::pool::place::{Place, place_of};

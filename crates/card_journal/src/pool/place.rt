@@ -1,7 +1,9 @@
 // Where the body of a file stands among those of the others.
 ghost use Rattle.std.specs.Prelude.{◌≡◌, ◌≢◌, ◌<◌, ◌^◌, IfNone, IfSome, IsTrue, ◌↔◌};
 ghost use Rattle.std.specs.List.{AllByRecursion};
-ghost use Rattle.card_journal.specs.Pool.{IsPlaceOf, pooled_size};
+ghost use Rattle.file_rows.specs.Path.{same_path};
+ghost use Rattle.card_journal.specs.Pool.{IsPlaceOf};
+ghost use Rattle.record_codec.specs.Pooled.{pooled_size};
 
 use file_rows::{FileHead, Path};
 
@@ -12,8 +14,10 @@ pub struct Place {
     pub start: usize,
 }
 
-fn is_at(head: &FileHead, path: &Path) -> bool
-    ensures { IsTrue result ↔ (head.now.path ≡ path.now) }
+// Whether a file has the path.
+pub fn is_at(head: &FileHead, path: &Path) -> bool
+    ensures test { result ≡ same_path head.now.path path.now }
+    ensures same { IsTrue result ↔ (head.now.path ≡ path.now) }
 {
     head.path.as_slice() == path.as_slice()
 }

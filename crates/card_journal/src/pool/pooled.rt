@@ -4,21 +4,22 @@ ghost use Rattle.plain_lists.specs.EachTwo.{EachTwo};
 ghost use Rattle.file_rows.specs.Change.{Fits, changed, file_after, new_file, with_file};
 ghost use Rattle.file_rows.specs.Content.{IsValid, file_at, heads_of, use_of};
 ghost use Rattle.file_rows.specs.Path.{stands_below};
-ghost use Rattle.card_journal.specs.Pool.{CanWrite, HasSizeRoom, pooled_rows, pooled_size};
+ghost use Rattle.card_journal.specs.Pool.{CanWrite, HasSizeRoom};
+ghost use Rattle.record_codec.specs.Pooled.{files_of, pooled_rows, pooled_size};
 
 use crate::pool::compact::{drop_pins, drop_rows};
 use crate::pool::edit::{append_blank, append_bytes};
 use crate::pool::file::change_at_path;
 use file_rows::{Change, Content, FileHead, FileRow, NoMemory, Path, PinRow, copy_pins};
 use plain_lists::LongList;
-use record_codec::set_in_pins;
+use record_codec::{PooledFiles, set_in_pins};
 use std::alloc::Global;
 use std::marker::Model;
 
 // How many files, bytes of bodies and PINs a quota allows.
 const MOST_FILES: usize = 2_048;
 
-const MOST_BYTES: usize = 65_536;
+pub const MOST_BYTES: usize = 65_536;
 
 const MOST_PINS: usize = 32;
 
@@ -34,7 +35,8 @@ pub struct PooledContent {
 impl Model for PooledContent {
     ghost use Rattle.std.specs.Prelude.{◌≡◌, length, vec_capacity};
     ghost use Rattle.file_rows.specs.declared.content.Content.{Content};
-    ghost use Rattle.card_journal.specs.Pool.{HasQuotaRoom, pooled_rows, pooled_size};
+    ghost use Rattle.card_journal.specs.Pool.{HasQuotaRoom};
+    ghost use Rattle.record_codec.specs.Pooled.{pooled_rows, pooled_size};
 
     ghost Value = { Content };
 
@@ -238,6 +240,16 @@ impl PooledContent {
             rows: LongList::from(rows),
             pins: LongList::from(pins),
         })
+    }
+
+    /// The files, as their heads and one list of bytes.
+    pub fn files(&self) -> PooledFiles<'_>
+        ensures { files_of result ≡ self.now.rows }
+    {
+        PooledFiles {
+            heads: &self.heads,
+            bytes: &self.bodies,
+        }
     }
 
     /// The heads of the files, in the order of creation.

@@ -10,9 +10,9 @@ pub returns-clause-clean : goal.returns-clause-clean
 returns-clause-clean g c =
     let start = g.F.Flash.state c.args.flash.now in
     let read = g.F.Flash.state c.read_switch.new.flash in
-    let mid = g.F.Flash.state c.read_bank.new.flash in
+    let mid = g.F.Flash.state c.load_bank.new.flash in
     found_clean start read c.bank_of-bank.result c.in_ok-live.field-0.live c.read_switch.ensures.reads c.bank_of-bank.ensures c.in_ok-live.ensures.live
-    mid (g.met.F.Flash.lawful c.args.flash.now) c.read_bank.ensures.reads c.in_ok-found.found.held c.in_ok-found.found.end c.in_ok-is_clean.is_clean
+    mid (g.met.F.Flash.lawful c.args.flash.now) c.load_bank.ensures.reads c.in_ok-found.found.held c.in_ok-found.found.end c.in_ok-is_clean.is_clean
     c.in_ok-live.ensures.range.0 c.in_ok-found.ensures.place c.in_ok-found.ensures.found c.in_ok-is_clean.ensures.erased
 
 pub returns-clause-holds : goal.returns-clause-holds
@@ -35,7 +35,7 @@ pub returns-clause-torn : goal.returns-clause-torn
 returns-clause-torn g c =
     let start = g.F.Flash.state c.args.flash.now in
     let read = g.F.Flash.state c.read_switch.new.flash in
-    let mid = g.F.Flash.state c.read_bank.new.flash in
+    let mid = g.F.Flash.state c.load_bank.new.flash in
     found_torn start read mid c.bank_of-bank.result c.in_ok-live.field-0.live c.read_switch.ensures.reads c.bank_of-bank.ensures c.in_ok-live.ensures.live
-    (g.met.F.Flash.lawful c.args.flash.now) c.read_bank.ensures.reads c.in_ok-found.found.held c.in_ok-found.found.end c.in_ok-is_clean.is_clean
+    (g.met.F.Flash.lawful c.args.flash.now) c.load_bank.ensures.reads c.in_ok-found.found.held c.in_ok-found.found.end c.in_ok-is_clean.is_clean
     c.in_ok-live.ensures.range.0 c.in_ok-found.ensures.place c.in_ok-found.ensures.found c.in_ok-is_clean.ensures.erased

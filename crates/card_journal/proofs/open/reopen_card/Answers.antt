@@ -3,7 +3,6 @@ use Rattle.card_journal.proofs.SwitchedLemmas.{came_back}
 use Rattle.card_journal.proofs.StoreLemmas.{on_ok, on_ok_map, reopen_throughout, restart_opened, restart_throughout}
 use Rattle.card_journal.specs.Image.{HoldsCard, switch_row}
 use Rattle.card_journal.specs.Stored.{EndsTorn, HoldsEither}
-use Rattle.flash_pages.specs.Flash.{IsSettled, MayLeaveOnly}
 use Rattle.flash_pages.specs.Switch.{IsNextByte}
 use Rattle.flash_pages.proofs.Touched.{GoesOn-trans}
 use Rattle.record_codec.specs.declared.durable.Durable.{Durable}

@@ -4,7 +4,7 @@ use Rattle.record_codec.proofs.DropLemmas.{pass_one}
 use Rattle.record_codec.proofs.apply.drop_contents.Goals as goal
 
 pub loop-head-preserved : goal.loop-head-preserved
-loop-head-preserved c =
+loop-head-preserved g c =
     let now = c.loop-head.contents.items in
     let place = c.loop-head.place in
     let head = c.head-item.result in
@@ -15,4 +15,5 @@ loop-head-preserved c =
     record {
       so_far = c.pass_content-place.ensures.items ∙ ap (λ (b : Bool). cond b (take place now ++ drop (place + 1) now) now) goes ∙ one.0;
       place = c.pass_content-place.ensures.next ∙ ap (λ (b : Bool). cond b place (place + 1)) goes ∙ one.1;
+      room = c.pass_content-place.ensures.room ∙ c.loop-head.invariant.room;
     }

@@ -1,5 +1,10 @@
-use Rattle.record_codec.proofs.WindowLemmas.{then}
+use Rattle.record_codec.specs.Fields.{byte, flag, option}
+use Rattle.record_codec.specs.Spelling.{profile_head}
+use Rattle.record_codec.proofs.WindowLemmas.{then, then_four}
 use Rattle.record_codec.proofs.writing.put_profile.Goals as goal
 
 pub returns-clause-puts : goal.returns-clause-puts
-returns-clause-puts c = then c.put_byte.ensures.puts (then c.put_flag.ensures (then c.put_profile_head.ensures.puts (then c.put_port_option.ensures.puts (then c.put_file_list.ensures.puts c.put_pin_list.ensures.puts))))
+returns-clause-puts c =
+    then_four (byte 2) (flag c.args.installation) (profile_head c.args.head.now) (option byte c.args.port)
+    c.put_profile_front.ensures.puts
+    (then c.put_file_list.ensures.puts (rw c.as_slice.ensures at c.put_pin_list.ensures.puts))

@@ -3,7 +3,7 @@ use Rattle.std.specs.Prelude.{slice_get, IsSomeAnd}
 use Rattle.file_rows.specs.Change.{file_after}
 use Rattle.file_rows.specs.declared.change.Change.{Change}
 use Rattle.file_rows.proofs.EditLemmas.{some_is}
-use Rattle.card_journal.specs.Pool.{pooled_rows}
+use Rattle.record_codec.specs.Pooled.{pooled_rows}
 use Rattle.card_journal.proofs.PoolFileLemmas.{LifeIs, life_rows, same_rows}
 use Rattle.card_journal.proofs.pool.file.change_file.Goals as goal
 

@@ -1,6 +1,6 @@
 use Rattle.std.proofs.Common.{◌≡◌, ◌≢◌, take}
 use Rattle.std.specs.List.{AllByRecursion}
-use Rattle.card_journal.specs.Pool.{pooled_size}
+use Rattle.record_codec.specs.Pooled.{pooled_size}
 use Rattle.card_journal.proofs.pool.place.place_of.Given as goal
 
 abbrev pub invariant-loop-index : goal.invariant-loop-index

@@ -2,7 +2,7 @@ use Rattle.std.proofs.Common.{◌∙◌, ◌+◌, ◌≤◌, ℕ, length, refl, 
 use Rattle.std.proofs.lemmas.List.{length-map, take_all}
 use Rattle.std.proofs.lemmas.Option.{slice_get_read}
 use Rattle.file_rows.specs.declared.row.FileRow.{FileRow}
-use Rattle.card_journal.specs.Pool.{pooled_rows}
+use Rattle.record_codec.specs.Pooled.{pooled_rows}
 use Rattle.card_journal.proofs.PoolCopyLemmas.{next-row}
 use Rattle.card_journal.proofs.PoolLemmas.{heads_of-pooled_rows}
 use Rattle.card_journal.proofs.pool.pooled.copy_rows.Goals as goal

@@ -1,5 +1,5 @@
 use Rattle.std.proofs.Common.{◌≡◌, take}
-use Rattle.card_journal.specs.Pool.{pooled_rows, pooled_size}
+use Rattle.record_codec.specs.Pooled.{pooled_rows, pooled_size}
 use Rattle.card_journal.proofs.pool.pooled.copy_rows.Given as goal
 
 abbrev pub invariant-loop-head : goal.invariant-loop-head

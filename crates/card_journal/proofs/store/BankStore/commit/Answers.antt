@@ -5,6 +5,7 @@ use Rattle.card_journal.proofs.StoreLemmas.{commits_failed}
 use Rattle.card_journal.specs.Store.{store_of}
 use Rattle.card_journal.specs.Stored.{HoldsWith}
 use Rattle.flash_pages.proofs.Throughout.{Throughout-begin}
+use Rattle.card_journal.proofs.HeldCardLemmas.{listed_puts}
 use Rattle.card_journal.proofs.store.BankStore.commit.Goals as goal
 
 pub returns-in_err-room-clause-atomic : goal.returns-in_err-room-clause-atomic
@@ -38,3 +39,10 @@ returns-in-Ok-clause-switched g c = c.in-Ok.ensures.switched
 
 pub returns-in-Ok-clause-next : goal.returns-in-Ok-clause-next
 returns-in-Ok-clause-next g c = c.in-Ok.ensures.next
+
+pub returns-in_err-room-clause-memory : goal.returns-in_err-room-clause-memory
+returns-in_err-room-clause-memory g c = λ is. (refl, c.in_err-room.ensures.only)
+
+pub returns-in_err-copy-clause-memory : goal.returns-in_err-copy-clause-memory
+returns-in_err-copy-clause-memory g c = λ is.
+    (refl, listed_puts c.args.entry.now c.in_err-copy.ensures.only c.requires.takes.later)

@@ -5,7 +5,6 @@ use Rattle.card_journal.specs.StoreState.{MayCommit, NeedsSwitch}
 use Rattle.card_journal.specs.Switched.{FromTo, IsSwitched, bodies_with, copy_bodies}
 use Rattle.card_journal.proofs.SwitchedLemmas.{row_behind, switched_behind}
 use Rattle.record_codec.specs.Spelling.{spelling}
-use Rattle.record_codec.specs.Room.{IsRoomFor}
 use Rattle.record_codec.specs.declared.durable.Durable.{Durable}
 use Rattle.flash_pages.proofs.Touched.{GoesOn-trans}
 use Rattle.card_journal.proofs.store.BankStore.commit_reserved.Goals as goal
@@ -17,7 +16,7 @@ append-requires g c =
       usable = c.make_room.ensures.usable;
       repaired = c.in_ok-kept.ensures.repaired;
       takes = subst (λ (d : Durable). MayCommit d c.args.entry.now) same c.requires.takes;
-      room = subst (λ (d : Durable). IsRoomFor d c.args.entry.now c.args.room) same c.requires.room;
+      room = c.requires.room;
       copied = c.in_ok-kept.ensures.copied ∙ c.requires.copied;
       fits = c.in_ok-kept.ensures.room;
     }

@@ -1,9 +1,8 @@
-use Rattle.std.proofs.Common.{◌≡◌, ℕ, Err, refl, sym, ◌∙◌}
+use Rattle.std.proofs.Common.{◌≡◌, ℕ, refl, sym, ◌∙◌}
 use Rattle.card_journal.specs.NotOpened.{fault_of}
 use Rattle.card_journal.specs.declared.fault.ReadFault.TheVariants as reads
 use Rattle.card_journal.specs.declared.open.NotOpened.{NotOpened}
 use Rattle.card_journal.specs.declared.open.NotOpened.TheVariants.{Read, Worn}
-use Rattle.card_journal.specs.declared.open_fault.OpenFault.{OpenFault}
 use Rattle.card_journal.specs.declared.open_fault.OpenFault.TheVariants.{NotACard}
 use Rattle.card_journal.proofs.StoreLemmas.{either_throughout, never_none, reopened}
 use Rattle.card_journal.proofs.store.BankStore.restart.Goals as goal
