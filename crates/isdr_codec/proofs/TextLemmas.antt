@@ -9,6 +9,7 @@ module _ {S E : Type 0} (A : S → Type 0) (B : E → Type 0) (bytes : List ℕ)
   no_text true is none = absurd (none (IsUtf8-from_is_utf8 bytes is))
   no_text false is none = refl
 
-  pub by_reading : (r : Result S E) → MatchResult r (λ s. A s × IsUtf8 bytes) (λ e. (IsUtf8 bytes → ⊥) × B e) → is_ok r ≡ is_utf8 bytes
+  pub by_reading : (r : Result S E) → MatchResult r (λ s. A s × IsUtf8 bytes)
+      (λ e. (IsUtf8 bytes → ⊥) × B e) → is_ok r ≡ is_utf8 bytes
   by_reading (Ok s) is = sym (is_utf8-from_IsUtf8 bytes is.1)
   by_reading (Err e) is = no_text (is_utf8 bytes) refl is.0

@@ -1,6 +1,7 @@
 -- The fields of a request or of metadata (GSMA SGP.22): data objects in any order, of which those
 -- with unknown tags are passed over.
-use Rattle.std.specs.Prelude.{ℕ, Bool, ◌==◌, if◌then◌else◌, List, [], ◌∷◌, Option, Some, None, option_and_then}
+use Rattle.std.specs.Prelude.{ℕ, Bool, ◌==◌, if◌then◌else◌, List, [], ◌∷◌, Option, Some, None}
+use Rattle.std.specs.Prelude.{option_and_then}
 use Rattle.ber_tlv.specs.Objects.{objects_of}
 use Rattle.ber_tlv.specs.Walk.{Object}
 

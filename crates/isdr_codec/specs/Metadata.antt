@@ -1,6 +1,7 @@
 -- The metadata of a load (GSMA SGP.22, StoreMetadata): BF25 with 5A, 91, 92, and where they stand
 -- 95, B6 and 99.
-use Rattle.std.specs.Prelude.{ℕ, Bool, ◌+◌, ◌==◌, ◌&&◌, nat_le, if◌then◌else◌, List, [], ◌∷◌, length, Option, Some, None, option_and_then, option_map, Result}
+use Rattle.std.specs.Prelude.{ℕ, Bool, ◌+◌, ◌==◌, ◌&&◌, nat_le, if◌then◌else◌, List, [], ◌∷◌}
+use Rattle.std.specs.Prelude.{length, Option, Some, None, option_and_then, option_map, Result}
 use Rattle.std.specs.List.{list_all}
 use Rattle.std.specs.Option.{ok_or}
 use Rattle.ber_tlv.specs.Objects.{objects_of}

@@ -1,5 +1,6 @@
 -- A profile in the reply to GetProfilesInfo (GSMA SGP.22, ProfileInfo).
-use Rattle.std.specs.Prelude.{ℕ, Bool, not, ◌==◌, if◌then◌else◌, List, [], ◌∷◌, ◌++◌, length, Option, Some, None, bit_and}
+use Rattle.std.specs.Prelude.{ℕ, Bool, not, ◌==◌, if◌then◌else◌, List, [], ◌∷◌, ◌++◌, length}
+use Rattle.std.specs.Prelude.{Option, Some, None, bit_and}
 use Rattle.ber_tlv.specs.Tlv.{shortest}
 use Rattle.isdr_codec.specs.Profile.{aid_of}
 use Rattle.port_table.specs.PortOf.{port_of}
@@ -16,9 +17,9 @@ abbrev pub field_where : ℕ → ℕ → ℕ → List ℕ → List ℕ
 field_where fields bit tag value = if is_asked fields bit then shortest tag value else []
 
 -- 01 for an enabled profile, which has a port, and 00 for a disabled one
-abbrev pub state_of : Option ℕ → ℕ
-state_of None = 0x00
-state_of (Some port) = 0x01
+abbrev pub state_byte : Option ℕ → ℕ
+state_byte None = 0x00
+state_byte (Some port) = 0x01
 
 -- the port of an enabled profile
 abbrev pub port_field : ℕ → Option ℕ → List ℕ
@@ -35,7 +36,7 @@ abbrev pub profile_fields : ℕ → Option ℕ → ProfileHead → List ℕ
 profile_fields fields port head =
     field_where fields 1 0x5A head.iccid
     ++ field_where fields 2 0x4F (aid_of head.number)
-    ++ field_where fields 4 0x9F70 (state_of port ∷ [])
+    ++ field_where fields 4 0x9F70 (state_byte port ∷ [])
     ++ port_field fields port
     ++ nickname_field fields head.nickname
     ++ field_where fields 32 0x91 head.provider

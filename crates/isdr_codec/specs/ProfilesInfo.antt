@@ -1,6 +1,7 @@
 -- GSMA SGP.22, ES10c.GetProfilesInfo: A0 with what is searched for, and 5C with the tags of the
 -- fields that are asked for.
-use Rattle.std.specs.Prelude.{ℕ, Bool, ◌+◌, ◌*◌, ◌%◌, ◌==◌, ◌&&◌, nat_lt, if◌then◌else◌, List, [], ◌∷◌, Option, Some, None, option_and_then, option_map}
+use Rattle.std.specs.Prelude.{ℕ, Bool, ◌+◌, ◌*◌, ◌%◌, ◌==◌, ◌&&◌, nat_lt, if◌then◌else◌, List, []}
+use Rattle.std.specs.Prelude.{◌∷◌, Option, Some, None, option_and_then, option_map}
 use Rattle.std.specs.List.{list_any}
 use Rattle.isdr_codec.specs.Fields.{field_in}
 use Rattle.isdr_codec.specs.Search.{search_where}
@@ -31,8 +32,8 @@ has_tag tag tags = list_any (λ other. other == tag) tags
 abbrev pub bit_of_tag : ℕ → ℕ → List ℕ → ℕ
 bit_of_tag tag bit tags = if has_tag tag tags then bit else 0
 
--- the fields that are asked for, a bit for each: from bit 0 the ICCID, the AID, the state, the port,
--- the nickname, the service provider, the name and the class
+-- the fields that are asked for, a bit for each: from bit 0 the ICCID, the AID, the state, the
+-- port, the nickname, the service provider, the name and the class
 abbrev pub fields_asked : List ℕ → ℕ
 fields_asked tags =
     bit_of_tag 0x5A 1 tags + bit_of_tag 0x4F 2 tags + bit_of_tag 0x9F70 4 tags

@@ -1,6 +1,7 @@
 -- The requests to the ISD-R (GSMA SGP.22, ES10b and ES10c): each is one data object with nothing
 -- behind it, whose tag says which request it is.
-use Rattle.std.specs.Prelude.{ℕ, ◌==◌, if◌then◌else◌, List, Option, Some, None, option_and_then, Result, Err}
+use Rattle.std.specs.Prelude.{ℕ, ◌==◌, if◌then◌else◌, List, Option, Some, None, option_and_then}
+use Rattle.std.specs.Prelude.{Result, Err}
 use Rattle.std.specs.Option.{ok_or}
 use Rattle.apdu_codec.specs.declared.status.Sw.{Sw}
 use Rattle.apdu_codec.specs.declared.status.TheConstants.Sw.{DATA_NOT_FOUND, WRONG_DATA}

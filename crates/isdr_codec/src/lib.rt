@@ -6,6 +6,7 @@ mod fields;
 mod metadata;
 mod naming;
 mod note_entry;
+mod profile;
 mod profile_entry;
 mod profiles_info;
 mod reading;
@@ -15,7 +16,9 @@ mod values;
 mod writing;
 
 pub use metadata::{MetaFault, read_metadata};
+pub use note_entry::operation_bit;
 pub use notify_list::Iccid;
+pub use profile::{aid_of, head_of};
 pub use reading::read_request;
 pub use reply::{Reply, put_reply};
 pub use request::{Nickname, Request, Search, Who};

@@ -43,7 +43,9 @@ fn operation_string(operation: Operation) -> [u8; 2]
     }
 }
 
-fn operation_bit(operation: Operation) -> u8
+/// The bit of an operation in an operations byte: 1 for install, 2 for enable, 4 for disable and 8
+/// for delete.
+pub fn operation_bit(operation: Operation) -> u8
     ensures { result ≡ operation_bit operation }
 {
     match operation {

@@ -1,39 +1,15 @@
 //! The profiles in the reply to GetProfilesInfo.
-ghost use Rattle.std.specs.Prelude.{◌≡◌, ◌+◌, ◌*◌, ◌^◌, ◌≤◌, ◌<◌, [], ◌∷◌, ◌++◌, None, Some, IfNone, IfSome, IfOk, OnOk, length, vec_len};
+ghost use Rattle.std.specs.Prelude.{◌≡◌, ◌+◌, ◌*◌, ◌^◌, ◌≤◌, ◌<◌, [], ◌∷◌, ◌++◌, IfOk, OnOk, length, vec_len};
 ghost use Rattle.std.specs.List.{flat_map};
 ghost use Rattle.ber_tlv.specs.Tag.{IsTag};
 ghost use Rattle.isdr_codec.specs.Profile.{aid_of};
-ghost use Rattle.isdr_codec.specs.ProfileEntry.{field_where, is_asked, nickname_field, port_field, profile_entry, profile_fields, state_of};
-ghost use Rattle.record_codec.specs.Heads.{head_of};
+ghost use Rattle.isdr_codec.specs.ProfileEntry.{field_where, is_asked, nickname_field, port_field, profile_entry, profile_fields, state_byte};
 
 use crate::NoMemory;
+use crate::profile::{aid_of, head_of};
 use crate::writing::push_object;
 use record_codec::{Heads, ProfileHead};
 use std::alloc::Global;
-
-// The AID of a profile's security domain.
-fn aid_of(number: u16) -> [u8; 16]
-    ensures { result ≡ aid_of number }
-{
-    [
-        0xA0,
-        0x00,
-        0x00,
-        0x05,
-        0x59,
-        0x10,
-        0x10,
-        0xFF,
-        0xFF,
-        0xFF,
-        0xFF,
-        0x89,
-        0x00,
-        0x00,
-        (number / 256) as u8,
-        (number % 256) as u8,
-    ]
-}
 
 // Whether the bit is among these.
 pub fn is_asked(bits: u8, bit: u8) -> bool
@@ -71,8 +47,8 @@ fn push_aid(out: &mut Vec<u8>, fields: u8, number: u16) -> Result<(), NoMemory>
     push_field(out, fields, 2, 0x4F, &aid_of(number))
 }
 
-fn state_of(port: Option<u8>) -> u8
-    ensures { result ≡ state_of port }
+fn state_byte(port: Option<u8>) -> u8
+    ensures { result ≡ state_byte port }
 {
     match port {
         Some(_) => 0x01,
@@ -82,10 +58,10 @@ fn state_of(port: Option<u8>) -> u8
 
 fn push_state(out: &mut Vec<u8>, fields: u8, port: Option<u8>) -> Result<(), NoMemory>
     ensures bytes { OnOk result
-        (out.new.items ≡ out.old.items ++ field_where fields 4 0x9F70 (state_of port ∷ [])) }
+        (out.new.items ≡ out.old.items ++ field_where fields 4 0x9F70 (state_byte port ∷ [])) }
     ensures few { OnOk result (vec_len out.new ≤ vec_len out.old + 8) }
 {
-    push_field(out, fields, 4, 0x9F70, &[state_of(port)])
+    push_field(out, fields, 4, 0x9F70, &[state_byte(port)])
 }
 
 fn push_port(out: &mut Vec<u8>, fields: u8, port: Option<u8>) -> Result<(), NoMemory>
@@ -121,7 +97,7 @@ fn push_place(
     ensures bytes { OnOk result (out.new.items ≡ out.old.items
         ++ field_where fields 1 0x5A head.now.iccid
         ++ field_where fields 2 0x4F (aid_of head.now.number)
-        ++ field_where fields 4 0x9F70 (state_of port ∷ [])
+        ++ field_where fields 4 0x9F70 (state_byte port ∷ [])
         ++ port_field fields port) }
     ensures few { OnOk result (vec_len out.new ≤ vec_len out.old + 56) }
 {
@@ -162,19 +138,6 @@ fn profile_fields(
     push_place(&mut out, fields, port, head)?;
     push_names(&mut out, fields, head)?;
     Ok(out)
-}
-
-// The head of the profile of that number.
-fn head_of(number: u16, profiles: &[ProfileHead]) -> Option<&ProfileHead>
-    ensures found { IfSome result (λ head. head_of number profiles.now ≡ Some head.now) }
-    ensures none { IfNone result (head_of number profiles.now ≡ None) }
-{
-    for head in profiles {
-        if head.number == number {
-            return Some(head);
-        }
-    }
-    None
 }
 
 // Appends the entry of the profile of that number, where it is held.

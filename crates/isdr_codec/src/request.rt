@@ -24,8 +24,8 @@ pub enum Search {
 /// A request to the ISD-R (GSMA SGP.22, ES10b and ES10c).
 #[derive(Debug, PartialEq, Eq, Drop)]
 pub enum Request {
-    /// GetProfilesInfo. The fields that are asked for are a bit each, from bit 0: ICCID, AID, state,
-    /// port, nickname, service provider, name, class.
+    /// GetProfilesInfo. The fields that are asked for are a bit each, from bit 0: ICCID, AID,
+    /// state, port, nickname, service provider, name, class.
     Info {
         search: Search,
         fields: u8,

@@ -1,6 +1,7 @@
 //! Requests as the standard writes them, each request's refusals, and each call once.
 use super::*;
 use apdu_codec::Sw;
+use std::alloc::Global;
 use std::test::Fail;
 
 mod metadata;
@@ -134,14 +135,42 @@ fn what_is_no_request_is_refused(rt: HostRuntime) {
     }
 }
 
+// One of each request.
+const EACH: [&[u8]; 9] = [
+    b"\xBF\x2D\x0B\xA0\x03\x95\x01\x02\x5C\x04\x5A\x9F\x70\x4F",
+    b"\xBF\x29\x10\x5A\x0A\x98\x94\0\0\0\0\0\0\0\xF1\x90\x02\xC3\xA4",
+    ENABLE,
+    b"\xBF\x32\x11\xA0\x0C\x5A\x0A\x98\x94\0\0\0\0\0\0\0\xF1\x81\x01\x01",
+    b"\xBF\x33\x12\x4F\x10\xA0\0\0\x05\x59\x10\x10\xFF\xFF\xFF\xFF\x89\0\0\x11\0",
+    b"\xBF\x34\x04\x82\x02\x06\xC0",
+    b"\xBF\x3E\x03\x5C\x01\x5A",
+    b"\xBF\x28\x04\x81\x02\x04\xF0",
+    b"\xBF\x30\x07\x80\x05\0\xFF\xFF\xFF\xFF",
+];
+
 #[test]
 fn a_request_cut_at_any_byte_is_no_object(rt: HostRuntime) {
-    for count in 0..ENABLE.len() {
-        assert!(rt;
-            read_request(&ENABLE[..count]) == Err(Sw(0x6A80)),
-            "{count}"
-        );
+    for request in &EACH {
+        for count in 0..request.len() {
+            assert!(rt;
+                read_request(&request[..count]) == Err(Sw(0x6A80)),
+                "{request:?} {count}"
+            );
+        }
+        assert!(rt; read_request(request).is_ok(), "{request:?}");
     }
+}
+
+// A request of these fields.
+fn request(alloc: Global, tag: u8, fields: &[&[u8]]) -> Result<Vec<u8>, Fail> {
+    let mut value = Vec::new(alloc);
+    for field in fields {
+        value.extend_from_slice(field)?;
+    }
+    let length = u8::try_from(value.len()).map_err(|_| Fail::from("a short request"))?;
+    let mut bytes = [0xBF, tag, length].to_vec(alloc)?;
+    bytes.extend_from_slice(&value)?;
+    Ok(bytes)
 }
 
 #[test]
@@ -158,11 +187,22 @@ fn fields_come_in_any_order(rt: HostRuntime) -> Result<(), Fail> {
         [port, flag, who],
     ];
     for order in &orders {
-        let mut bytes = b"\xBF\x31\x14".to_vec(rt.alloc())?;
-        for field in order {
-            bytes.extend_from_slice(field)?;
-        }
+        let bytes = request(rt.alloc(), 0x31, order)?;
         assert!(rt; read_request(&bytes) == read_request(ENABLE), "{bytes:?}");
+    }
+    let iccid: &[u8] = b"\x5A\x0A\x98\x94\0\0\0\0\0\0\0\xF1";
+    let pairs: [(u8, &[u8], &[u8]); 4] = [
+        (0x29, iccid, b"\x90\x02\xC3\xA4"),
+        (0x2D, b"\xA0\x03\x95\x01\x02", b"\x5C\x01\x5A"),
+        (0x32, who, flag),
+        // a field of another request is passed over
+        (0x33, iccid, b"\x90\x01\x07"),
+    ];
+    for (tag, one, other) in &pairs {
+        let bytes = request(rt.alloc(), *tag, &[*one, *other])?;
+        let turned = request(rt.alloc(), *tag, &[*other, *one])?;
+        assert!(rt; read_request(&bytes).is_ok(), "{bytes:?}");
+        assert!(rt; read_request(&bytes) == read_request(&turned), "{bytes:?}");
     }
     Ok(())
 }

@@ -1,5 +1,7 @@
 pub mod AloneLemmas
 pub mod CarryLemmas
+pub mod DoneLemmas
+pub mod EachLemmas
 pub mod FoundLemmas
 pub mod InstallLemmas
 pub mod KeptLemmas

@@ -3,9 +3,11 @@ use Rattle.std.specs.Prelude.{ℕ, List, [], Option, Some, None}
 use Rattle.isdr_commands.specs.declared.decision.Decision.{Decision}
 use Rattle.isdr_commands.specs.declared.moves.Move.{Move}
 use Rattle.isdr_commands.specs.declared.refusal.Refusal.{Refusal}
-use Rattle.isdr_commands.specs.declared.refusal.Refusal.TheVariants.{NoPort, NoRoom, NotFound, Policy, RefreshPending, WrongState}
-use Rattle.isdr_commands.specs.declared.reply.Reply.{Reply}
-use Rattle.isdr_commands.specs.declared.reply.Reply.TheVariants.{Outcome}
+use Rattle.isdr_commands.specs.declared.refusal.Refusal.TheVariants.{NoPort, NoRoom, NotFound}
+use Rattle.isdr_commands.specs.declared.refusal.Refusal.TheVariants.{Policy, RefreshPending}
+use Rattle.isdr_commands.specs.declared.refusal.Refusal.TheVariants.{WrongState}
+use Rattle.isdr_codec.specs.declared.reply.Reply.{Reply}
+use Rattle.isdr_codec.specs.declared.reply.Reply.TheVariants.{Outcome}
 use Rattle.port_table.specs.Target.{fault_number}
 use Rattle.record_codec.specs.declared.profile.ProfileHead.{ProfileHead}
 use Rattle.record_codec.specs.declared.record.Record.{Record}

@@ -2,7 +2,7 @@
 use Rattle.std.specs.Prelude.{[], ◌∷◌, is_some, if◌then◌else◌}
 use Rattle.isdr_codec.specs.declared.request.Who.{Who}
 use Rattle.isdr_commands.specs.Decision.{accepted, at_profile, refused_with}
-use Rattle.isdr_commands.specs.Managed.{keeps_held, lacks_room, profile_named}
+use Rattle.isdr_commands.specs.Profiles.{keeps_held, lacks_room, profile_named}
 use Rattle.isdr_commands.specs.declared.decision.Decision.{Decision}
 use Rattle.notify_list.specs.declared.note.Operation.TheVariants.{Delete}
 use Rattle.port_table.specs.PortOf.{port_of}
@@ -21,4 +21,5 @@ deleting_head heads head =
 
 -- 1 not found
 abbrev pub deleting_named : Heads → Who → Decision
-deleting_named heads who = at_profile 0xBF33 (profile_named who heads.profiles) (deleting_head heads)
+deleting_named heads who = at_profile 0xBF33 (profile_named who heads.profiles)
+    (deleting_head heads)

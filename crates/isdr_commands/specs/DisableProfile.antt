@@ -2,7 +2,7 @@
 use Rattle.std.specs.Prelude.{ℕ, Bool, List, [], ◌∷◌, Option, Some, None, if◌then◌else◌}
 use Rattle.isdr_codec.specs.declared.request.Who.{Who}
 use Rattle.isdr_commands.specs.Decision.{accepted, at_profile, refused_with}
-use Rattle.isdr_commands.specs.Managed.{is_busy, keeps_enabled, lacks_room, profile_named}
+use Rattle.isdr_commands.specs.Profiles.{is_busy, keeps_enabled, lacks_room, profile_named}
 use Rattle.isdr_commands.specs.declared.decision.Decision.{Decision}
 use Rattle.notify_list.specs.declared.note.Operation.TheVariants.{Disable}
 use Rattle.port_table.specs.PortOf.{port_of}

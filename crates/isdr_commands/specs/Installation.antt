@@ -1,10 +1,11 @@
 -- Whether a profile may be installed.
-use Rattle.std.specs.Prelude.{ℕ, ◌||◌, nat_le, nat_lt, length, Option, Some, None, if◌then◌else◌}
+use Rattle.std.specs.Prelude.{◌||◌, nat_le, nat_lt, length, Option, Some, None, if◌then◌else◌}
 use Rattle.std.specs.List.{list_any}
 use Rattle.std.specs.Str.{bytes_eq}
-use Rattle.isdr_commands.specs.Managed.{lacks_room}
+use Rattle.isdr_commands.specs.Profiles.{lacks_room}
 use Rattle.isdr_commands.specs.declared.install.LoadRefusal.{LoadRefusal}
-use Rattle.isdr_commands.specs.declared.install.LoadRefusal.TheVariants.{IccidExists, ProfilesFull, NotificationsFull}
+use Rattle.isdr_commands.specs.declared.install.LoadRefusal.TheVariants.{IccidExists, ProfilesFull}
+use Rattle.isdr_commands.specs.declared.install.LoadRefusal.TheVariants.{NotificationsFull}
 use Rattle.notify_list.specs.declared.note.Operation.TheVariants.{Install}
 use Rattle.record_codec.specs.Noted.{count_of}
 use Rattle.record_codec.specs.declared.durable.Heads.{Heads}

@@ -1,11 +1,13 @@
 -- What holds of every request that is accepted.
-use Rattle.std.specs.Prelude.{ℕ, true, ◌≡◌, ◌≢◌, ◌<◌, ◌≤◌, ◌↔◌, Any, List, length, Some, IsSomeAnd, slice_get, ⊤}
+use Rattle.std.specs.Prelude.{ℕ, true, ◌≡◌, ◌≢◌, ◌<◌, ◌≤◌, ◌↔◌, Any, List, length, Some, IsSomeAnd}
+use Rattle.std.specs.Prelude.{slice_get, ⊤}
 use Rattle.std.specs.List.{AllByRecursion}
 use Rattle.isdr_codec.specs.declared.request.Request.{Request}
-use Rattle.isdr_codec.specs.declared.request.Request.TheVariants.{Delete, Disable, Enable, MemoryReset, Nickname}
+use Rattle.isdr_codec.specs.declared.request.Request.TheVariants.{Delete, Disable, Enable}
+use Rattle.isdr_codec.specs.declared.request.Request.TheVariants.{MemoryReset, Nickname}
 use Rattle.isdr_codec.specs.declared.request.Who.{Who}
 use Rattle.isdr_codec.specs.declared.request.Who.TheVariants.{Iccid}
-use Rattle.isdr_commands.specs.Managed.{profile_named}
+use Rattle.isdr_commands.specs.Profiles.{profile_named}
 use Rattle.isdr_commands.specs.MemoryReset.{is_reset}
 use Rattle.isdr_commands.specs.declared.decision.Decision.{Decision}
 use Rattle.isdr_commands.specs.declared.moves.Move.{Move}

@@ -7,9 +7,9 @@ pub mod GetEid
 pub mod Installation
 pub mod Laws
 pub mod ListNotification
-pub mod Managed
 pub mod MemoryReset
 pub mod NotificationSent
+pub mod Profiles
 pub mod ProfilesInfo
 pub mod Request
 pub mod SetNickname

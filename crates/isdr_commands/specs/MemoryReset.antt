@@ -1,9 +1,10 @@
 -- GSMA SGP.22, ES10c.eUICCMemoryReset.
-use Rattle.std.specs.Prelude.{ℕ, Bool, true, ◌+◌, ◌==◌, ◌&&◌, ◌||◌, if◌then◌else◌, List, [], ◌∷◌, length, map, filter, Option, Some, None}
+use Rattle.std.specs.Prelude.{ℕ, Bool, true, ◌+◌, ◌==◌, ◌&&◌, ◌||◌, if◌then◌else◌, List, [], ◌∷◌}
+use Rattle.std.specs.Prelude.{length, map, filter, Option, Some, None}
 use Rattle.std.specs.List.{list_any}
 use Rattle.isdr_commands.specs.Ascending.{ascending}
 use Rattle.isdr_commands.specs.Decision.{accepted, refused_with}
-use Rattle.isdr_commands.specs.Managed.{is_busy, lacks_room}
+use Rattle.isdr_commands.specs.Profiles.{is_busy, lacks_room}
 use Rattle.isdr_commands.specs.declared.decision.Decision.{Decision}
 use Rattle.isdr_commands.specs.declared.moves.Move.{Move}
 use Rattle.notify_list.specs.declared.note.Operation.TheVariants.{Delete}

@@ -4,9 +4,9 @@ use Rattle.isdr_codec.specs.declared.request.Search.{Search}
 use Rattle.isdr_codec.specs.declared.request.Search.TheVariants.{All, Class, One}
 use Rattle.isdr_commands.specs.Ascending.{ascending}
 use Rattle.isdr_commands.specs.Decision.{told}
-use Rattle.isdr_commands.specs.Managed.{is_identified}
+use Rattle.isdr_commands.specs.Profiles.{is_identified}
 use Rattle.isdr_commands.specs.declared.decision.Decision.{Decision}
-use Rattle.isdr_commands.specs.declared.reply.Reply.TheVariants.{Infos}
+use Rattle.isdr_codec.specs.declared.reply.Reply.TheVariants.{Infos}
 use Rattle.record_codec.specs.declared.durable.Heads.{Heads}
 use Rattle.record_codec.specs.declared.profile.ProfileHead.{ProfileHead}
 

@@ -1,8 +1,11 @@
--- What a request comes to, by the heads, the ports whose REFRESH isn't over, and the port on which
--- the request came.
+-- What a request comes to and its answer, by the heads, the ports whose REFRESH isn't over, and the
+-- port on which the request came.
 use Rattle.std.specs.Prelude.{ℕ, Bool, List}
+use Rattle.isdr_codec.specs.Reply.{reply_bytes}
 use Rattle.isdr_codec.specs.declared.request.Request.{Request}
-use Rattle.isdr_codec.specs.declared.request.Request.TheVariants.{Info, Nickname, Enable, Disable, Delete, MemoryReset, Eid, NoteList, NoteSent}
+use Rattle.isdr_codec.specs.declared.request.Request.TheVariants.{Info, Nickname, Enable, Disable}
+use Rattle.isdr_codec.specs.declared.request.Request.TheVariants.{Delete, MemoryReset, Eid}
+use Rattle.isdr_codec.specs.declared.request.Request.TheVariants.{NoteList, NoteSent}
 use Rattle.isdr_commands.specs.DeleteProfile.{deleting_named}
 use Rattle.isdr_commands.specs.DisableProfile.{disabling_named}
 use Rattle.isdr_commands.specs.EnableProfile.{enabling_named}
@@ -26,3 +29,7 @@ managed heads busy came (MemoryReset operational test) =
 managed heads busy came Eid = eid_told
 managed heads busy came (NoteList operations) = notes_told operations
 managed heads busy came (NoteSent number) = note_sent heads number
+
+-- the bytes that answer a request
+abbrev pub answer_to : Heads → List Bool → ℕ → Request → List ℕ
+answer_to heads busy came request = reply_bytes (managed heads busy came request).reply heads

@@ -2,7 +2,7 @@
 use Rattle.std.specs.Prelude.{ℕ, List, []}
 use Rattle.isdr_codec.specs.declared.request.Who.TheVariants.{Iccid}
 use Rattle.isdr_commands.specs.Decision.{accepted, at_profile}
-use Rattle.isdr_commands.specs.Managed.{profile_named}
+use Rattle.isdr_commands.specs.Profiles.{profile_named}
 use Rattle.isdr_commands.specs.declared.decision.Decision.{Decision}
 use Rattle.record_codec.specs.declared.durable.Heads.{Heads}
 use Rattle.record_codec.specs.declared.profile.ProfileHead.{ProfileHead}

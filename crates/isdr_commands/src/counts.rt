@@ -1,23 +1,11 @@
-// How many notifications what is done to profiles makes, and whether they find room.
+// How many notifications what is done to profiles makes.
 ghost use Rattle.std.specs.Prelude.{◌≡◌, ◌≤◌};
-ghost use Rattle.isdr_commands.specs.Managed.{lacks_room};
 ghost use Rattle.record_codec.specs.Heads.{head_of};
-ghost use Rattle.record_codec.specs.Noted.{count_of, count_of_each, count_where, names, operation_bit};
+ghost use Rattle.record_codec.specs.Noted.{count_of, count_of_each, count_where, names};
 
-use crate::naming::head_of;
-use notify_list::{Notes, Operation};
+use isdr_codec::{head_of, operation_bit};
+use notify_list::Operation;
 use record_codec::{NoteTarget, Numbers, ProfileHead};
-
-fn operation_bit(operation: Operation) -> u8
-    ensures { result ≡ operation_bit operation }
-{
-    match operation {
-        Operation::Install => 1,
-        Operation::Enable => 2,
-        Operation::Disable => 4,
-        Operation::Delete => 8,
-    }
-}
 
 // Whether the target names the operation.
 fn names(operation: Operation, target: &NoteTarget) -> bool
@@ -60,11 +48,4 @@ pub fn count_of_each(operation: Operation, numbers: &Numbers, profiles: &[Profil
         count += count_at(operation, *number, profiles);
     }
     count
-}
-
-// Whether so many notifications more find no room.
-pub fn lacks_room(notes: &Notes, more: u16) -> bool
-    ensures { result ≡ lacks_room notes.now more }
-{
-    !notes.room(more)
 }

@@ -2,7 +2,8 @@ ghost use Rattle.std.specs.Prelude.{◌≡◌, [], ◌∷◌};
 ghost use Rattle.isdr_commands.specs.Decision.{accepted, refused_with, refusal_number, told};
 
 use crate::refusal::Refusal;
-use crate::{Move, Moves, Reply};
+use crate::{Move, Moves};
+use isdr_codec::Reply;
 use record_codec::Record;
 
 /// What a request comes to: its reply, the record that carries it out, where it changes anything,

@@ -1,14 +1,15 @@
 ghost use Rattle.std.specs.Prelude.{◌≡◌, ◌≤◌, length};
 ghost use Rattle.std.specs.List.{list_any};
-ghost use Rattle.isdr_commands.specs.Managed.{is_busy};
+ghost use Rattle.isdr_commands.specs.Profiles.{is_busy};
 ghost use Rattle.isdr_commands.specs.MemoryReset.{freed_from, is_reset, number_leaving, memory_reset, numbers_reset, resetting, resetting_all};
 ghost use Rattle.record_codec.specs.Gone.{is_among};
 
 use crate::ascending::ascending;
-use crate::counts::{count_of_each, lacks_room};
-use crate::naming::is_busy;
+use crate::counts::count_of_each;
+use crate::decision::Decision;
+use crate::naming::{is_busy, lacks_room};
 use crate::refusal::Refusal;
-use crate::{Decision, Move, Moves};
+use crate::{Move, Moves};
 use notify_list::Operation;
 use record_codec::{Heads, Numbers, ProfileHead, Record};
 

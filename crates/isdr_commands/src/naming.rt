@@ -1,38 +1,13 @@
 // The profiles that requests name, and those on ports.
 ghost use Rattle.std.specs.Prelude.{◌≡◌, ◌≤◌, None, Some, IfNone, IfSome};
 ghost use Rattle.std.specs.Str.{bytes_eq};
-ghost use Rattle.isdr_commands.specs.Managed.{aid_of, head_on, is_busy, is_kept, is_identified, keeps_enabled, keeps_held, profile_named, number_on};
-ghost use Rattle.record_codec.specs.Heads.{head_of};
+ghost use Rattle.isdr_commands.specs.Profiles.{head_on, is_busy, is_kept, is_identified, keeps_enabled, keeps_held, lacks_room, number_on, profile_named};
 ghost use Rattle.record_codec.specs.Noted.{count_where};
 
 use crate::counts::count_of;
-use isdr_codec::Who;
-use notify_list::Operation;
+use isdr_codec::{Who, aid_of, head_of};
+use notify_list::{Notes, Operation};
 use record_codec::{Heads, ProfileHead};
-
-// The AID of a profile's security domain.
-fn aid_of(number: u16) -> [u8; 16]
-    ensures { result ≡ aid_of number }
-{
-    [
-        0xA0,
-        0x00,
-        0x00,
-        0x05,
-        0x59,
-        0x10,
-        0x10,
-        0xFF,
-        0xFF,
-        0xFF,
-        0xFF,
-        0x89,
-        0x00,
-        0x00,
-        (number / 256) as u8,
-        (number % 256) as u8,
-    ]
-}
 
 pub fn are_same(one: &[u8], other: &[u8]) -> bool
     ensures { result ≡ bytes_eq one.now other.now }
@@ -57,19 +32,6 @@ pub fn profile_named<'a>(who: &Who, profiles: &'a [ProfileHead]) -> Option<&'a P
 {
     for head in profiles {
         if is_identified(who, head) {
-            return Some(head);
-        }
-    }
-    None
-}
-
-// The head of the profile of that number.
-pub fn head_of(number: u16, profiles: &[ProfileHead]) -> Option<&ProfileHead>
-    ensures found { IfSome result (λ head. head_of number profiles.now ≡ Some head.now) }
-    ensures none { IfNone result (head_of number profiles.now ≡ None) }
-{
-    for head in profiles {
-        if head.number == number {
             return Some(head);
         }
     }
@@ -140,4 +102,11 @@ pub fn is_busy(busy: &[bool; 8], port: u8) -> bool
         Some(is_busy) => *is_busy,
         None => false,
     }
+}
+
+// Whether so many notifications more find no room.
+pub fn lacks_room(notes: &Notes, more: u16) -> bool
+    ensures { result ≡ lacks_room notes.now more }
+{
+    !notes.room(more)
 }

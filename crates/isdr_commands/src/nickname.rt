@@ -1,9 +1,10 @@
 ghost use Rattle.std.specs.Prelude.{◌≡◌};
 ghost use Rattle.isdr_commands.specs.SetNickname.{naming};
 
+use crate::Moves;
+use crate::decision::Decision;
 use crate::naming::profile_named;
 use crate::refusal::Refusal;
-use crate::{Decision, Moves};
 use isdr_codec::{Iccid, Nickname, Who};
 use record_codec::{Heads, Record};
 

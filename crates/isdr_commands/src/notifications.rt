@@ -2,8 +2,9 @@ ghost use Rattle.std.specs.Prelude.{◌≡◌, ◌==◌, true, false, IfNone, If
 ghost use Rattle.std.specs.List.{list_any};
 ghost use Rattle.isdr_commands.specs.NotificationSent.{note_sent};
 
+use crate::Moves;
+use crate::decision::Decision;
 use crate::refusal::Refusal;
-use crate::{Decision, Moves};
 use notify_list::Note;
 use record_codec::{Heads, Record};
 

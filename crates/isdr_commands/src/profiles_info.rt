@@ -2,9 +2,9 @@ ghost use Rattle.std.specs.Prelude.{◌≡◌, ◌≤◌, length};
 ghost use Rattle.isdr_commands.specs.ProfilesInfo.{is_searched, numbers_searched, profiles_info};
 
 use crate::ascending::ascending;
+use crate::decision::Decision;
 use crate::naming::is_identified;
-use crate::{Decision, Reply};
-use isdr_codec::Search;
+use isdr_codec::{Reply, Search};
 use record_codec::{Heads, Numbers, ProfileHead};
 
 fn is_searched(search: &Search, head: &ProfileHead) -> bool

@@ -1,6 +1,7 @@
 ghost use Rattle.std.specs.Prelude.{◌≡◌, ◌≤◌, ◌<◌, length};
 ghost use Rattle.isdr_commands.specs.Request.{managed};
 
+use crate::decision::Decision;
 use crate::delete::delete_profile;
 use crate::disable::disable_profile;
 use crate::enable::enable_profile;
@@ -8,14 +9,11 @@ use crate::memory_reset::reset_memory;
 use crate::nickname::set_nickname;
 use crate::notifications::notification_sent;
 use crate::profiles_info::profiles_info;
-use crate::{Decision, Reply};
-use isdr_codec::Request;
+use isdr_codec::{Reply, Request};
 use record_codec::Heads;
 
-/// What a request to the ISD-R comes to on a card with these heads: its reply, at most one record
-/// and the ports that move. `busy` says of each port, from 0, whether its REFRESH isn't over; the
-/// request came on the port `port`. What each request's results are, in the order in which they are
-/// tested, stands at its own function. It looks at each profile, port and notification a few times.
+// What a request comes to. What its results are, in the order in which they are tested, stands at
+// its own function.
 pub fn decide(heads: &Heads, busy: &[bool; 8], port: u8, request: &Request) -> Decision
     requires places { length heads.now.ports.on ≡ heads.now.ports.count }
     requires few { heads.now.ports.count ≤ 8 }

@@ -4,4 +4,5 @@ use Rattle.isdr_commands.proofs.laws.notifications_stay_until_they_are_sent.Goal
 
 pub returns : goal.returns
 returns c = λ durable busy came request entry note other e there.
-    notes_stay note durable entry (managed_leaves durable.heads busy note entry came request other e) there
+    notes_stay note durable entry
+    (managed_leaves durable.heads busy note entry came request other e) there

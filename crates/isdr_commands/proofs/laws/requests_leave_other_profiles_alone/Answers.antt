@@ -6,7 +6,8 @@ use Rattle.isdr_commands.proofs.laws.requests_leave_other_profiles_alone.Goals a
 
 pub returns : goal.returns
 returns c = λ durable busy came number request entry asked unnamed undisplaced e.
-    let passes = managed_passes durable.heads asked.card.heads.profiles.numbers busy number entry came request unnamed e undisplaced in
+    let passes = managed_passes durable.heads asked.card.heads.profiles.numbers busy number entry
+    came request unnamed e undisplaced in
     let fits = (managed_carries durable asked.card busy entry came request asked e).fits in
     record {
       content = contents_stay durable entry number asked.card.contents.pairs passes.content;

@@ -1,18 +1,15 @@
 -- What requests ask of the profiles, their ports and the notifications.
-use Rattle.std.specs.Prelude.{ℕ, Bool, false, not, ◌+◌, ◌/◌, ◌%◌, ◌==◌, ◌&&◌, ◌||◌, nat_le, List, [], ◌∷◌, length, find, slice_get, slice_index_or, Option, Some, None, option_and_then, bit_and}
+use Rattle.std.specs.Prelude.{ℕ, Bool, false, not, ◌+◌, ◌==◌, ◌&&◌, ◌||◌, nat_le, List, length}
+use Rattle.std.specs.Prelude.{find, slice_get, slice_index_or, Option, Some, None, option_and_then}
+use Rattle.std.specs.Prelude.{bit_and}
 use Rattle.std.specs.Str.{bytes_eq}
 use Rattle.notify_list.specs.Notes.{NoteList}
+use Rattle.isdr_codec.specs.Profile.{aid_of}
 use Rattle.isdr_codec.specs.declared.request.Who.{Who}
 use Rattle.isdr_codec.specs.declared.request.Who.TheVariants.{Aid, Iccid}
 use Rattle.record_codec.specs.Heads.{head_of}
 use Rattle.record_codec.specs.declared.durable.Heads.{Heads}
 use Rattle.record_codec.specs.declared.profile.ProfileHead.{ProfileHead}
-
--- the AID of a profile's security domain: the prefix of the ISD-Ps and the profile's number
-abbrev pub aid_of : ℕ → List ℕ
-aid_of number =
-    0xA0 ∷ 0x00 ∷ 0x00 ∷ 0x05 ∷ 0x59 ∷ 0x10 ∷ 0x10 ∷ 0xFF ∷ 0xFF ∷ 0xFF ∷ 0xFF ∷ 0x89 ∷ 0x00 ∷ 0x00
-    ∷ number / 256 ∷ number % 256 ∷ []
 
 abbrev pub is_identified : Who → ProfileHead → Bool
 is_identified (Aid aid) head = bytes_eq aid (aid_of head.number)
@@ -48,8 +45,8 @@ is_kept (Some head) = keeps_enabled head
 abbrev pub is_busy : List Bool → ℕ → Bool
 is_busy busy port = slice_index_or busy port false
 
--- whether so many notifications more find no room: more than 256 would be pending, or a number would
--- pass 4,294,967,295
+-- whether so many notifications more find no room: more than 256 would be pending, or a number
+-- would pass 4,294,967,295
 abbrev pub lacks_room : NoteList → ℕ → Bool
 lacks_room notes more =
     not (nat_le (length notes.list + more) 256
