@@ -1,0 +1,4 @@
+pub mod CommandLemmas
+pub mod OutcomeLemmas
+pub mod PortLemmas
+pub mod RequestLemmas

@@ -1,0 +1,9 @@
+pub mod Carried
+pub mod Desk
+pub mod DeskOutcome
+pub mod Exchange
+pub mod GetResponse
+pub mod Port
+pub mod Recorded
+pub mod StoreData
+pub mod Laws
