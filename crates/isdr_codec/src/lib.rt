@@ -16,9 +16,8 @@ mod values;
 mod writing;
 
 pub use metadata::{MetaFault, read_metadata};
-pub use note_entry::operation_bit;
 pub use notify_list::Iccid;
-pub use profile::{aid_of, head_of};
+pub use profile::aid_of;
 pub use reading::read_request;
 pub use reply::{Reply, put_reply};
 pub use request::{Nickname, Request, Search, Who};

@@ -2,13 +2,13 @@
 ghost use Rattle.std.specs.Prelude.{◌≡◌, ◌+◌, ◌*◌, ◌≤◌, ◌++◌, IfOk, OnOk, length, vec_len};
 ghost use Rattle.std.specs.List.{flat_map};
 ghost use Rattle.isdr_codec.specs.NoteEntry.{integer_bytes, note_entry, note_fields, operation_string};
-ghost use Rattle.record_codec.specs.Noted.{operation_bit};
 
 use crate::NoMemory;
 use crate::profile_entry::is_asked;
 use crate::writing::push_object;
 use notify_list::{Note, Operation};
 use plain_lists::ShortList;
+use record_codec::operation_bit;
 use std::alloc::Global;
 
 // A number as an integer that isn't negative (ITU-T X.690).
@@ -40,19 +40,6 @@ fn operation_string(operation: Operation) -> [u8; 2]
         Operation::Enable => [0x06, 0x40],
         Operation::Disable => [0x05, 0x20],
         Operation::Delete => [0x04, 0x10],
-    }
-}
-
-/// The bit of an operation in an operations byte: 1 for install, 2 for enable, 4 for disable and 8
-/// for delete.
-pub fn operation_bit(operation: Operation) -> u8
-    ensures { result ≡ operation_bit operation }
-{
-    match operation {
-        Operation::Install => 1,
-        Operation::Enable => 2,
-        Operation::Disable => 4,
-        Operation::Delete => 8,
     }
 }
 

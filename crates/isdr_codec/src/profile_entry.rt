@@ -6,9 +6,9 @@ ghost use Rattle.isdr_codec.specs.Profile.{aid_of};
 ghost use Rattle.isdr_codec.specs.ProfileEntry.{field_where, is_asked, nickname_field, port_field, profile_entry, profile_fields, state_byte};
 
 use crate::NoMemory;
-use crate::profile::{aid_of, head_of};
+use crate::profile::aid_of;
 use crate::writing::push_object;
-use record_codec::{Heads, ProfileHead};
+use record_codec::{Heads, ProfileHead, head_of};
 use std::alloc::Global;
 
 // Whether the bit is among these.

@@ -2,13 +2,12 @@ ghost use Rattle.std.specs.Prelude.{◌≡◌};
 ghost use Rattle.isdr_commands.specs.DeleteProfile.{deleting_named, deleting_head};
 
 use crate::Moves;
-use crate::counts::count_of;
 use crate::decision::Decision;
 use crate::naming::{keeps_held, lacks_room, profile_named};
 use crate::refusal::Refusal;
 use isdr_codec::Who;
 use notify_list::Operation;
-use record_codec::{Heads, Numbers, ProfileHead, Record};
+use record_codec::{Heads, Numbers, ProfileHead, Record, count_of};
 
 const TAG: u32 = 0xBF33;
 

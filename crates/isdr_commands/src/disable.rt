@@ -2,13 +2,12 @@ ghost use Rattle.std.specs.Prelude.{◌≡◌};
 ghost use Rattle.isdr_commands.specs.DisableProfile.{disabling_named, disabling_head, disabling_on};
 
 use crate::Move;
-use crate::counts::count_of;
 use crate::decision::Decision;
 use crate::naming::{is_busy, keeps_enabled, lacks_room, profile_named};
 use crate::refusal::Refusal;
 use isdr_codec::Who;
 use notify_list::Operation;
-use record_codec::{Heads, ProfileHead, Record};
+use record_codec::{Heads, ProfileHead, Record, count_of};
 
 const TAG: u32 = 0xBF32;
 

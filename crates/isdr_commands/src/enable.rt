@@ -2,14 +2,13 @@ ghost use Rattle.std.specs.Prelude.{◌≡◌, ◌≤◌, ◌<◌, length};
 ghost use Rattle.isdr_commands.specs.EnableProfile.{enabling_named, enabling_head, enabling_on};
 
 use crate::Move;
-use crate::counts::count_of;
 use crate::decision::Decision;
 use crate::naming::{count_on, is_busy, is_kept_on, lacks_room, number_on, profile_named};
 use crate::refusal::Refusal;
 use isdr_codec::Who;
 use notify_list::Operation;
 use port_table::TargetFault;
-use record_codec::{Heads, ProfileHead, Record};
+use record_codec::{Heads, ProfileHead, Record, count_of};
 
 const TAG: u32 = 0xBF31;
 

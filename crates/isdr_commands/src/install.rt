@@ -3,10 +3,9 @@ ghost use Rattle.std.specs.List.{list_any};
 ghost use Rattle.std.specs.Str.{bytes_eq};
 ghost use Rattle.isdr_commands.specs.Installation.{install_refusal};
 
-use crate::counts::count_of;
 use crate::naming::{are_same, lacks_room};
 use notify_list::{Iccid, Operation};
-use record_codec::{Heads, ProfileHead};
+use record_codec::{Heads, ProfileHead, count_of};
 use thiserror::Error;
 
 /// Why a profile isn't installed.

@@ -4,7 +4,6 @@
 #![tactic(auto)]
 
 mod ascending;
-mod counts;
 mod decision;
 mod delete;
 mod disable;
@@ -30,3 +29,6 @@ pub use laws::{
 pub use managing::{Managed, manage};
 pub use moves::{Move, Moves};
 pub use std::alloc::AllocError as NoMemory;
+
+#[cfg(test)]
+mod tests;

@@ -5,13 +5,12 @@ ghost use Rattle.isdr_commands.specs.MemoryReset.{freed_from, is_reset, number_l
 ghost use Rattle.record_codec.specs.Gone.{is_among};
 
 use crate::ascending::ascending;
-use crate::counts::count_of_each;
 use crate::decision::Decision;
 use crate::naming::{is_busy, lacks_room};
 use crate::refusal::Refusal;
 use crate::{Move, Moves};
 use notify_list::Operation;
-use record_codec::{Heads, Numbers, ProfileHead, Record};
+use record_codec::{Heads, Numbers, ProfileHead, Record, count_of_each};
 
 const TAG: u32 = 0xBF34;
 

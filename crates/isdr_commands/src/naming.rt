@@ -4,10 +4,9 @@ ghost use Rattle.std.specs.Str.{bytes_eq};
 ghost use Rattle.isdr_commands.specs.Profiles.{head_on, is_busy, is_kept, is_identified, keeps_enabled, keeps_held, lacks_room, number_on, profile_named};
 ghost use Rattle.record_codec.specs.Noted.{count_where};
 
-use crate::counts::count_of;
-use isdr_codec::{Who, aid_of, head_of};
+use isdr_codec::{Who, aid_of};
 use notify_list::{Notes, Operation};
-use record_codec::{Heads, ProfileHead};
+use record_codec::{Heads, ProfileHead, count_of, head_of};
 
 pub fn are_same(one: &[u8], other: &[u8]) -> bool
     ensures { result ≡ bytes_eq one.now other.now }

@@ -17,7 +17,7 @@ use Rattle.port_table.specs.declared.port_mode.PortMode.TheVariants.{A1, A2, B}
 use Rattle.record_codec.specs.Fields.{flag, flag_byte, number2, string}
 use Rattle.record_codec.specs.Reading.{◌>>=◌, Form, change_at, file_read, file_head_at, flag_of, form_at, head_from, kind_of, life_read, mode_of, note_at, one_at, operation_of, pin_read, profile_head_at, puk_at, record_read, rule_read, target_at}
 use Rattle.record_codec.specs.Sizes.{Codes, HasCoding, IsChange, HasFileSizes, IsFileHead, IsForm, IsNote, HasPinSizes, IsProfileHead, IsPuk, IsRule, IsTarget}
-use Rattle.record_codec.specs.Spelling.{change, file, file_head, form, kind_byte, coded_life, mode_byte, note, operation_byte, pin, profile_head, puk, rule, spelling, target}
+use Rattle.record_codec.specs.Spelling.{coded_change, file, file_head, form, kind_byte, coded_life, mode_byte, note, operation_byte, pin, profile_head, puk, rule, spelling, target}
 use Rattle.record_codec.specs.declared.record.Record.{Record}
 use Rattle.record_codec.specs.declared.record.Record.TheVariants as records
 use Rattle.record_codec.proofs.FieldLemmas.{Again, both_again, byte_again, list_again, made_again, number2_again, number4_again, number8_again, one_again, option_again, path_again, plain_again, string_again}
@@ -105,7 +105,7 @@ pin_again = made_again (both_again byte_again (both_again path_again (both_again
     })
     (λ p. (p.number, (p.home, (p.key, (p.value, (p.max, (p.left, (p.enabled, p.puk)))))))) (λ p. refl)
 
-change_reads : (its : Change) (rest : List ℕ) → IsChange its → change_at (change its ++ rest) ≡ Some (its, rest)
+change_reads : (its : Change) (rest : List ℕ) → IsChange its → change_at (coded_change its ++ rest) ≡ Some (its, rest)
 unfolding change_at
 change_reads (WriteRange at offset bytes) rest fits =
     ap (λ r. r >>= λ x. Some (WriteRange x.0.0 x.0.1.0 x.0.1.1, x.1))
@@ -121,7 +121,7 @@ change_reads (FileState at state) rest fits =
 change_reads (FileSize at size) rest fits =
     ap (λ r. r >>= λ x. Some (FileSize x.0.0 x.0.1, x.1)) ((both_again path_again number2_again).reads (at, size) rest fits)
 
-change_again : Again change IsChange change_at
+change_again : Again coded_change IsChange change_at
 change_again = record { reads = change_reads }
 
 note_again : Again note IsNote note_at

@@ -16,7 +16,7 @@ use Rattle.notify_list.specs.declared.note.Note.{Note}
 use Rattle.record_codec.specs.FitsCard.{FitsCard}
 use Rattle.record_codec.specs.Fields.{◌&◌, byte, flag, list, number2, number4, number8, option, path, plain, string}
 use Rattle.record_codec.specs.Sizes.{HasCoding, HasFileSizes, HasPinSizes, IsChange, IsForm, IsNote, IsProfileHead, IsPuk, IsTarget}
-use Rattle.record_codec.specs.Spelling.{change, coded_life, file, file_head, form, kind_byte, life, mode_byte, note, operation, pin, profile_head, puk, rule, spelling, target}
+use Rattle.record_codec.specs.Spelling.{coded_change, coded_life, file, file_head, form, kind_byte, life, mode_byte, note, operation, pin, profile_head, puk, rule, spelling, target}
 use Rattle.record_codec.specs.declared.durable.Durable.{Durable}
 use Rattle.record_codec.specs.declared.profile.NoteTarget.{NoteTarget}
 use Rattle.record_codec.specs.declared.profile.ProfileHead.{ProfileHead}
@@ -170,7 +170,7 @@ head_len head is =
       two policy targets,
     )
 
-change_len : (its : Change) → IsChange its → length (change its) ≤ 300
+change_len : (its : Change) → IsChange its → length (coded_change its) ≤ 300
 change_len (WriteRange at offset bytes) is =
     omega (arith, path_len at is.0.0, is.1.1, string_len bytes, two (byte 0) (path at & number2 offset & string bytes), two (path at) (number2 offset & string bytes), two (number2 offset) (string bytes))
 change_len (WriteRecord at number bytes) is =
@@ -231,7 +231,7 @@ short_where durable (records.PutProfile installation profile port) fits is =
       two files pins,
     )
 short_where durable (records.Content profile its) fits is =
-    omega (arith, change_len its is.1, two (byte 3) (number2 profile & change its), two (number2 profile) (change its))
+    omega (arith, change_len its is.1, two (byte 3) (number2 profile & coded_change its), two (number2 profile) (coded_change its))
 short_where durable (records.Bind profile port displaced) fits is =
     omega (arith, option_number_len displaced, two (byte 4) (number2 profile & byte port & option number2 displaced), two (number2 profile) (byte port & option number2 displaced), two (byte port) (option number2 displaced))
 short_where durable (records.Unbind profile) fits is = omega (arith, two (byte 5) (number2 profile))

@@ -11,7 +11,7 @@ use Rattle.port_table.specs.declared.port_mode.PortMode.{PortMode}
 use Rattle.record_codec.specs.Fields.{flag, flag_byte}
 use Rattle.record_codec.specs.Reading.{Form, Reader, change_at, change_of, file_read, file_head_at, flag_of, form_at, head_from, kind_of, life_read, made_at, mode_of, note_at, one_at, operation_of, pin_read, profile_head_at, puk_at, record_read, record_tagged, row_from, rule_read, target_at}
 use Rattle.record_codec.specs.Sizes.{Codes, HasCoding, IsChange, HasFileSizes, IsFileHead, IsForm, IsNote, HasPinSizes, IsProfileHead, IsPuk, IsRule, IsTarget}
-use Rattle.record_codec.specs.Spelling.{change, file, file_head, form, kind_byte, life, coded_life, mode_byte, note, operation_byte, pin, profile_head, puk, rule, spelling, target}
+use Rattle.record_codec.specs.Spelling.{coded_change, file, file_head, form, kind_byte, life, coded_life, mode_byte, note, operation_byte, pin, profile_head, puk, rule, spelling, target}
 use Rattle.record_codec.specs.Returns.{Fails}
 use Rattle.record_codec.specs.declared.fault.RecordFault.{RecordFault}
 use Rattle.record_codec.specs.declared.fault.RecordFault.TheVariants as faults
@@ -134,26 +134,26 @@ tagged {X} {Y} {tx} {fx} {rx} px tag make ty fy spelled fit bytes y rest is e =
     (subst (λ (text : List ℕ). Takes (tag ∷ bytes) text a.0.1) (sym (spelled a.0.0)) (record { parts = ap (λ (w : List ℕ). tag ∷ w) t.0.parts; rest_fits = t.0.rest_fits }), fit a.0.0 t.1)
 
 change_of_takes : (tag : ℕ) (bytes : List ℕ) (its : Change) (rest : List ℕ) → IsBytes (tag ∷ bytes) → change_of tag bytes ≡ Some (its, rest)
-    → Takes (tag ∷ bytes) (change its) rest × IsChange its
+    → Takes (tag ∷ bytes) (coded_change its) rest × IsChange its
 change_of_takes zero bytes its rest is e =
-    tagged (both_taken path_taken (both_taken number2_taken (string_taken 255))) 0 (λ x. WriteRange x.0 x.1.0 x.1.1) change IsChange (λ x. refl) (λ x h. h) bytes its rest is e
+    tagged (both_taken path_taken (both_taken number2_taken (string_taken 255))) 0 (λ x. WriteRange x.0 x.1.0 x.1.1) coded_change IsChange (λ x. refl) (λ x h. h) bytes its rest is e
 change_of_takes (suc zero) bytes its rest is e =
-    tagged (both_taken path_taken (both_taken byte_taken (string_taken 255))) 1 (λ x. WriteRecord x.0 x.1.0 x.1.1) change IsChange (λ x. refl) (λ x h. h) bytes its rest is e
-change_of_takes (suc (suc zero)) bytes its rest is e = tagged pin_taken 2 PinSet change IsChange (λ x. refl) (λ x h. h) bytes its rest is e
-change_of_takes (suc (suc (suc zero))) bytes its rest is e = tagged file_head_taken 3 FileAdd change IsChange (λ x. refl) (λ x h. h) bytes its rest is e
-change_of_takes (suc (suc (suc (suc zero)))) bytes its rest is e = tagged path_taken 4 FileGone change IsChange (λ x. refl) (λ x h. h) bytes its rest is e
+    tagged (both_taken path_taken (both_taken byte_taken (string_taken 255))) 1 (λ x. WriteRecord x.0 x.1.0 x.1.1) coded_change IsChange (λ x. refl) (λ x h. h) bytes its rest is e
+change_of_takes (suc (suc zero)) bytes its rest is e = tagged pin_taken 2 PinSet coded_change IsChange (λ x. refl) (λ x h. h) bytes its rest is e
+change_of_takes (suc (suc (suc zero))) bytes its rest is e = tagged file_head_taken 3 FileAdd coded_change IsChange (λ x. refl) (λ x h. h) bytes its rest is e
+change_of_takes (suc (suc (suc (suc zero)))) bytes its rest is e = tagged path_taken 4 FileGone coded_change IsChange (λ x. refl) (λ x h. h) bytes its rest is e
 change_of_takes (suc (suc (suc (suc (suc zero))))) bytes its rest is e =
-    tagged (both_taken path_taken life_taken) 5 (λ x. FileState x.0 x.1) change IsChange (λ x. refl) (λ x h. h) bytes its rest is e
+    tagged (both_taken path_taken life_taken) 5 (λ x. FileState x.0 x.1) coded_change IsChange (λ x. refl) (λ x h. h) bytes its rest is e
 change_of_takes (suc (suc (suc (suc (suc (suc zero)))))) bytes its rest is e =
-    tagged (both_taken path_taken number2_taken) 6 (λ x. FileSize x.0 x.1) change IsChange (λ x. refl) (λ x h. h) bytes its rest is e
+    tagged (both_taken path_taken number2_taken) 6 (λ x. FileSize x.0 x.1) coded_change IsChange (λ x. refl) (λ x h. h) bytes its rest is e
 change_of_takes (suc (suc (suc (suc (suc (suc (suc n))))))) bytes its rest is e = absurd cc
 
-change_takes : (bytes : List ℕ) (its : Change) (rest : List ℕ) → IsBytes bytes → change_at bytes ≡ Some (its, rest) → Takes bytes (change its) rest × IsChange its
+change_takes : (bytes : List ℕ) (its : Change) (rest : List ℕ) → IsBytes bytes → change_at bytes ≡ Some (its, rest) → Takes bytes (coded_change its) rest × IsChange its
 unfolding change_at
 change_takes [] its rest is e = absurd cc
 change_takes (tag ∷ bytes) its rest is e = change_of_takes tag bytes its rest is e
 
-change_taken : Taken change IsChange change_at
+change_taken : Taken coded_change IsChange change_at
 change_taken = record { takes = change_takes }
 
 record_tagged_takes : (tag : ℕ) (bytes : List ℕ) (its : Record) (rest : List ℕ) → IsBytes (tag ∷ bytes) → record_tagged tag bytes ≡ Some (its, rest)

@@ -18,9 +18,9 @@ abbrev pub pooled_size : List FileHead → ℕ
 pooled_size heads = sum_by (λ head. head.size) heads
 
 -- the files that they stand for
-abbrev pub files_of : PooledFiles → List FileRow
-files_of files = pooled_rows files.heads.now files.bytes.now
+abbrev pub files_pooled : PooledFiles → List FileRow
+files_pooled files = pooled_rows files.heads.now files.bytes.now
 
 -- the content with these files and PINs
 abbrev pub pooled_content : PooledFiles → List PinRow → Content
-pooled_content files pins = record { rows = files_of files; pins = pins }
+pooled_content files pins = record { rows = files_pooled files; pins = pins }

@@ -83,14 +83,14 @@ pin row =
     & flag row.enabled
     & option puk row.puk
 
-abbrev pub change : Change → List ℕ
-change (WriteRange at offset bytes) = byte 0 & path at & number2 offset & string bytes
-change (WriteRecord at number bytes) = byte 1 & path at & byte number & string bytes
-change (PinSet row) = byte 2 & pin row
-change (FileAdd head) = byte 3 & file_head head
-change (FileGone at) = byte 4 & path at
-change (FileState at state) = byte 5 & path at & life state
-change (FileSize at size) = byte 6 & path at & number2 size
+abbrev pub coded_change : Change → List ℕ
+coded_change (WriteRange at offset bytes) = byte 0 & path at & number2 offset & string bytes
+coded_change (WriteRecord at number bytes) = byte 1 & path at & byte number & string bytes
+coded_change (PinSet row) = byte 2 & pin row
+coded_change (FileAdd head) = byte 3 & file_head head
+coded_change (FileGone at) = byte 4 & path at
+coded_change (FileState at state) = byte 5 & path at & life state
+coded_change (FileSize at size) = byte 6 & path at & number2 size
 
 abbrev pub note : Note → List ℕ
 note n = number4 n.number & operation n.operation & plain n.iccid & string n.address
@@ -115,7 +115,7 @@ spelling (records.PutProfile installation profile port) =
     byte 2 & flag installation & profile_head profile.head & option byte port
     & list file profile.content.rows
     & list pin profile.content.pins
-spelling (records.Content profile its) = byte 3 & number2 profile & change its
+spelling (records.Content profile its) = byte 3 & number2 profile & coded_change its
 spelling (records.Bind profile port displaced) =
     byte 4 & number2 profile & byte port & option number2 displaced
 spelling (records.Unbind profile) = byte 5 & number2 profile

@@ -6,7 +6,9 @@ ghost use Rattle.record_codec.specs.Noted.{count_of, count_of_each, count_where,
 use crate::{NoteTarget, Numbers, ProfileHead};
 use notify_list::Operation;
 
-fn operation_bit(operation: Operation) -> u8
+/// The bit of an operation in an operations byte: 1 for install, 2 for enable, 4 for disable and 8
+/// for delete.
+pub fn operation_bit(operation: Operation) -> u8
     ensures { result ≡ operation_bit operation }
 {
     match operation {
@@ -24,7 +26,7 @@ pub fn names(operation: Operation, target: &NoteTarget) -> bool
     target.operations & operation_bit(operation) != 0
 }
 
-// How many of a profile's targets name the operation.
+/// How many of a profile's targets name the operation: at most 8.
 pub fn count_of(operation: Operation, head: &ProfileHead) -> u16
     ensures value { result ≡ count_of operation head.now }
     ensures few { result ≤ 8 }
@@ -38,7 +40,7 @@ pub fn count_of(operation: Operation, head: &ProfileHead) -> u16
     count
 }
 
-// The head of the profile of that number.
+/// The head of the profile of that number, where one of these has it.
 pub fn head_of(number: u16, profiles: &[ProfileHead]) -> Option<&ProfileHead>
     ensures found { IfSome result (λ head. head_of number profiles.now ≡ Some head.now) }
     ensures none { IfNone result (head_of number profiles.now ≡ None) }
@@ -74,7 +76,7 @@ pub fn count_at(operation: Operation, number: u16, profiles: &[ProfileHead]) -> 
     }
 }
 
-// How many an operation on each of these profiles makes.
+/// How many notifications an operation on each of these profiles makes.
 pub fn count_of_each(operation: Operation, numbers: &Numbers, profiles: &[ProfileHead]) -> u16
     ensures { result ≡ count_of_each operation numbers.now profiles.now }
 {

@@ -34,7 +34,7 @@ pub use apply::drop_contents;
 pub use content_change::set_in_pins;
 pub use copy_record::CopyRecord;
 pub use copying::{copy_record_len, put_copy_record};
-pub use counts::is_held;
+pub use counts::{count_of, count_of_each, head_of, is_held, operation_bit};
 pub use durable::{Durable, Heads, ProfileList};
 pub use fault::RecordFault;
 pub use file_change::{put_bytes, write_bytes};

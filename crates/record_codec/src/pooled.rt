@@ -1,7 +1,7 @@
 ghost use Rattle.std.specs.Prelude.{◌≡◌, ◌≤◌, length, take, drop};
 ghost use Rattle.std.specs.List.{AllByRecursion, flat_map};
 ghost use Rattle.record_codec.specs.Fields.{list};
-ghost use Rattle.record_codec.specs.Pooled.{files_of, pooled_rows};
+ghost use Rattle.record_codec.specs.Pooled.{files_pooled, pooled_rows};
 ghost use Rattle.record_codec.specs.Sizes.{HasFileSizes, IsList};
 ghost use Rattle.record_codec.specs.Spelling.{file};
 ghost use Rattle.record_codec.specs.Window.{Puts};
@@ -40,11 +40,11 @@ fn put_cut_files(heads: &[FileHead], bytes: &[u8], place: &mut Place, out: &mut 
 
 // Puts the list of the files that these stand for.
 pub(crate) fn put_pooled_list(files: &PooledFiles<'_>, place: &mut Place, out: &mut [u8])
-    requires few { length (files_of files.now) ≤ 65535 }
+    requires few { length (files_pooled files.now) ≤ 65535 }
     requires bodies { AllByRecursion
-        (λ row. length row.body ≡ row.head.size) (files_of files.now) }
-    ensures puts { Puts (list file (files_of files.now)) place.old out.old place.new out.new }
-    ensures sizes { IsList 65535 HasFileSizes (files_of files.now) }
+        (λ row. length row.body ≡ row.head.size) (files_pooled files.now) }
+    ensures puts { Puts (list file (files_pooled files.now)) place.old out.old place.new out.new }
+    ensures sizes { IsList 65535 HasFileSizes (files_pooled files.now) }
 {
     put_number2(files.heads.len() as u16, place, out);
     put_cut_files(files.heads, files.bytes, place, out);

@@ -1,7 +1,7 @@
 // Changes of a content as bytes.
 ghost use Rattle.record_codec.specs.Fields.{◌&◌, byte, number2, path, string};
 ghost use Rattle.record_codec.specs.Sizes.{IsByte, IsChange, IsFileHead, IsNumber2, IsPath, HasPinSizes, IsString};
-ghost use Rattle.record_codec.specs.Spelling.{change, file_head, life, pin};
+ghost use Rattle.record_codec.specs.Spelling.{coded_change, file_head, life, pin};
 ghost use Rattle.record_codec.specs.Window.{Puts};
 
 use crate::put::{put_file_head, put_life, put_path, put_pin, put_text};
@@ -73,7 +73,7 @@ fn put_file_size(at: &Path, size: u16, place: &mut Place, out: &mut [u8])
 }
 
 pub fn put_change(its: &Change, place: &mut Place, out: &mut [u8])
-    ensures puts { Puts (change its.now) place.old out.old place.new out.new }
+    ensures puts { Puts (coded_change its.now) place.old out.old place.new out.new }
     ensures sizes { IsChange its.now }
 {
     match its {

@@ -2,9 +2,9 @@
 ghost use Rattle.std.specs.Prelude.{◌≡◌, ◌≤◌, ◌<◌, ◌-◌, ◌^◌, ◌++◌, length, take, drop, min, false, IfSome};
 ghost use Rattle.std.specs.List.{AllByRecursion, flat_map};
 ghost use Rattle.record_codec.specs.Fields.{◌&◌, byte, flag, list, number2, number4, number8, option, plain, string};
-ghost use Rattle.record_codec.specs.Pooled.{files_of};
+ghost use Rattle.record_codec.specs.Pooled.{files_pooled};
 ghost use Rattle.record_codec.specs.Sizes.{Codes, HasCoding, HasSizes, IsByte, IsChange, HasFileSizes, IsList, IsNote, IsNumber2, IsNumber4, IsNumber8, HasPinSizes, IsPlain, IsProfileHead, IsString};
-ghost use Rattle.record_codec.specs.Spelling.{change, file, mode, note, pin, profile_head, spelling};
+ghost use Rattle.record_codec.specs.Spelling.{coded_change, file, mode, note, pin, profile_head, spelling};
 ghost use Rattle.record_codec.specs.Window.{Puts};
 
 use crate::pooled::put_pooled_list;
@@ -187,15 +187,15 @@ pub(crate) fn put_pooled_profile(
     place: &mut Place,
     out: &mut [u8],
 )
-    requires files { length (files_of files.now) ≤ 65535 }
+    requires files { length (files_pooled files.now) ≤ 65535 }
     requires pins { length pins.now ≤ 65535 }
     requires bodies { AllByRecursion
-        (λ row. length row.body ≡ row.head.size) (files_of files.now) }
+        (λ row. length row.body ≡ row.head.size) (files_pooled files.now) }
     ensures puts { Puts (byte 2 & flag false & profile_head head.now & option byte port
-        & list file (files_of files.now) & list pin pins.now)
+        & list file (files_pooled files.now) & list pin pins.now)
         place.old out.old place.new out.new }
     ensures sizes { IsProfileHead head.now × IfSome port IsByte
-        × IsList 65535 HasFileSizes (files_of files.now) × IsList 65535 HasPinSizes pins.now }
+        × IsList 65535 HasFileSizes (files_pooled files.now) × IsList 65535 HasPinSizes pins.now }
 {
     put_profile_front(false, head, port, place, out);
     put_pooled_list(files, place, out);
@@ -203,7 +203,7 @@ pub(crate) fn put_pooled_profile(
 }
 
 fn put_content(profile: u16, its: &Change, place: &mut Place, out: &mut [u8])
-    ensures puts { Puts (byte 3 & number2 profile & change its.now)
+    ensures puts { Puts (byte 3 & number2 profile & coded_change its.now)
         place.old out.old place.new out.new }
     ensures sizes { IsNumber2 profile × IsChange its.now }
 {

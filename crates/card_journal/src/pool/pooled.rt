@@ -5,7 +5,7 @@ ghost use Rattle.file_rows.specs.Change.{Fits, changed, file_after, new_file, wi
 ghost use Rattle.file_rows.specs.Content.{IsValid, file_at, heads_of, use_of};
 ghost use Rattle.file_rows.specs.Path.{stands_below};
 ghost use Rattle.card_journal.specs.Pool.{CanWrite, HasSizeRoom};
-ghost use Rattle.record_codec.specs.Pooled.{files_of, pooled_rows, pooled_size};
+ghost use Rattle.record_codec.specs.Pooled.{files_pooled, pooled_rows, pooled_size};
 
 use crate::pool::compact::{drop_pins, drop_rows};
 use crate::pool::edit::{append_blank, append_bytes};
@@ -244,7 +244,7 @@ impl PooledContent {
 
     /// The files, as their heads and one list of bytes.
     pub fn files(&self) -> PooledFiles<'_>
-        ensures { files_of result ≡ self.now.rows }
+        ensures { files_pooled result ≡ self.now.rows }
     {
         PooledFiles {
             heads: &self.heads,

@@ -1,7 +1,7 @@
 use Rattle.std.proofs.Common.{ℕ, sym, subst, arith}
 use Rattle.std.specs.List.{flat_map}
 use Rattle.record_codec.specs.Fields.{◌&◌, number2}
-use Rattle.record_codec.specs.Pooled.{files_of}
+use Rattle.record_codec.specs.Pooled.{files_pooled}
 use Rattle.record_codec.specs.Spelling.{file}
 use Rattle.record_codec.specs.Window.{Puts}
 use Rattle.record_codec.proofs.PooledLemmas.{length-pooled_rows}
@@ -16,6 +16,6 @@ overflow_cast-files c =
 pub returns-clause-puts : goal.returns-clause-puts
 returns-clause-puts c =
     let files = c.args.files.now in
-    subst (λ (n : ℕ). Puts (number2 n & flat_map file (files_of files)) c.args.place.now c.args.out.now c.put_cut_files.new.place c.put_cut_files.new.out)
+    subst (λ (n : ℕ). Puts (number2 n & flat_map file (files_pooled files)) c.args.place.now c.args.out.now c.put_cut_files.new.place c.put_cut_files.new.out)
     (sym (length-pooled_rows files.heads.now files.bytes.now))
     (then c.put_number2.ensures.puts c.put_cut_files.ensures.puts)
