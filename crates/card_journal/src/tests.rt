@@ -1,4 +1,7 @@
 //! A record as the body of a row, a bank with the rows of a card, byte by byte, and commits.
+pub(crate) mod fixture;
+mod making;
+
 ghost use Rattle.card_journal.specs.Store.{store_of};
 ghost use Rattle.card_journal.specs.StoreState.{IsUsable};
 
