@@ -1,5 +1,5 @@
-//! The file templates of a profile package (TCA eUICC Profile Package, created files): which files a
-//! template has, each at a position, with what they are unless the package says otherwise.
+//! The file templates of a profile package (TCA eUICC Profile Package, created files): which files
+//! a template has, each at a position, with what they are unless the package says otherwise.
 #![tactic(auto)]
 
 mod laws;

@@ -4,3 +4,5 @@ pub mod Handing
 pub mod Joined
 pub mod OnePart
 pub mod MoreComes
+pub mod EachHead
+pub mod EachPart

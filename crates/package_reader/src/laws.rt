@@ -12,9 +12,12 @@ pub fn parts_are_the_bytes_that_came()
         → pieces_of turns ≡ part_bytes_of turns ++ new.unread }
 {}
 
-/// In each state one part alone comes next.
+/// In each state a part comes next, and no other one: a head, the bytes of a value, the end of a
+/// TLV, that more bytes have to come, or that no TLV stands there.
 pub fn one_part_comes_next()
-    ensures { (old new other : ReaderState) (part another : Part) → HandsOut old part new
+    ensures there { (old : ReaderState) → (part : Part) × (new : ReaderState)
+        × HandsOut old part new }
+    ensures alone { (old new other : ReaderState) (part another : Part) → HandsOut old part new
         → HandsOut old another other → part ≡ another }
 {}
 

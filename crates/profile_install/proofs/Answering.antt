@@ -6,7 +6,7 @@ use Rattle.file_rows.specs.Content.{IsValid}
 use Rattle.file_rows.specs.declared.content.Content.{Content}
 use Rattle.package_reader.specs.ReaderState.{ReaderState, fed, fresh_reader}
 use Rattle.package_reader.specs.Turn.{GoesBy}
-use Rattle.profile_install.specs.Package.{Answers, IsOutcome, PackageGives, ReadsParts, after_turns, fresh_work, is_used_up, outcome, work_outcome}
+use Rattle.profile_install.specs.Package.{Answers, IsOutcome, PackageGives, ReadsParts, after_turns, fresh_work, is_used_up, package_outcome, work_outcome}
 use Rattle.profile_install.specs.declared.work.BuildFault.{BuildFault}
 use Rattle.profile_install.specs.declared.work.BuildFault.TheVariants.{Element, OutOfMemory}
 use Rattle.profile_install.specs.declared.work.Refusal.{Refusal}
@@ -50,7 +50,8 @@ pub answers : (iccid bytes : List ℕ) (elements new : ReaderState) (work done :
     → elements ≡ fed fresh_reader bytes → work ≡ fresh_work
     → ReadsParts iccid elements work done new
     → (IsTrue used_up ↔ (new.unread ≡ []))
-    → IsOutcome result (outcome done.place done.progress used_up) → Answers iccid bytes result
+    → IsOutcome result (package_outcome done.place done.progress used_up)
+    → Answers iccid bytes result
 answers iccid bytes elements new work done used_up result start begun reads e is =
     answers_of iccid bytes result (work_outcome done used_up) is
     (gives iccid bytes elements new done used_up start

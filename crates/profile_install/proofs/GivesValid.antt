@@ -11,7 +11,7 @@ use Rattle.package_reader.specs.Turn.{GoesBy, Turn}
 use Rattle.package_reader.specs.Turn.Turn.{Comes, Goes}
 use Rattle.package_reader.specs.declared.part.Part.{Part}
 use Rattle.package_reader.specs.declared.part.Part.TheVariants.{Head, Bytes, Close, More, Bad}
-use Rattle.profile_install.specs.Package.{AllWhole, PackageGives, after_part, after_turns, broken, closed, content_at_end, content_of, fresh_work, gathering, going, headed, heading, is_gathering, is_used_up, opening, outcome, progress_after, refused_at, settled, valued, with_fault}
+use Rattle.profile_install.specs.Package.{AllWhole, PackageGives, after_part, after_turns, broken, closed, content_at_end, content_of_draft, fresh_work, gathering, going, headed, heading, is_gathering, is_used_up, constructed_begins, package_outcome, progress_after, refused_at, step_settled, valued, element_with_fault}
 use Rattle.profile_install.specs.State.{closed_at, depth_of, fresh_state, opened_at, valued_at}
 use Rattle.profile_install.specs.declared.fault.ElementFault.{ElementFault}
 use Rattle.profile_install.specs.declared.fault.ElementFault.TheVariants.{Malformed}
@@ -38,12 +38,12 @@ either : (b : Bool) (x y : Progress) → IsGoodProgress x → IsGoodProgress y
 either true x y one other = one
 either false x y one other = other
 
-fault_good : (fault : ElementFault) (depth : ℕ) → IsGoodProgress (with_fault fault depth)
+fault_good : (fault : ElementFault) (depth : ℕ) → IsGoodProgress (element_with_fault fault depth)
 fault_good fault depth = either (depth == 0) (Refused fault)
     (Broken (record { fault = fault; depth = depth })) tt tt
 
 settled_good : (r : Result State ElementFault) (depth : ℕ)
-    → ((s : State) → r ≡ Ok s → IsGoodState s) → IsGoodProgress (settled r depth)
+    → ((s : State) → r ≡ Ok s → IsGoodState s) → IsGoodProgress (step_settled r depth)
 settled_good (Ok state) depth gives = gives state refl
 settled_good (Err fault) depth gives = fault_good fault depth
 
@@ -65,10 +65,11 @@ with_passed : (state : State) (passed : ℕ) → IsGoodState state
     → IsGoodState (record state { passed = passed })
 with_passed state passed good = record { good = good.good; standing = good.standing; at = good.at }
 
-opening_good : (state : State) (tag : ℕ) → IsGoodState state → IsGoodProgress (opening state tag)
+opening_good : (state : State) (tag : ℕ) → IsGoodState state
+    → IsGoodProgress (constructed_begins state tag)
 opening_good state tag good = either (nat_le 1 state.passed)
     (Going (record state { passed = state.passed + 1 }))
-    (settled (opened_at state state.spot tag) (depth_of state.spot + 1))
+    (step_settled (opened_at state state.spot tag) (depth_of state.spot + 1))
     (with_passed state (state.passed + 1) good)
     (settled_good (opened_at state state.spot tag) (depth_of state.spot + 1)
     (λ new e. opened_good state new state.spot tag refl good e))
@@ -76,7 +77,8 @@ opening_good state tag good = either (nat_le 1 state.passed)
 heading_good : (iccid : List ℕ) (state : State) (tag n : ℕ) → IsGoodState state
     → IsGoodProgress (heading iccid state tag n)
 heading_good iccid state tag n good =
-    let came : Progress = settled (valued_at iccid state state.spot tag []) (depth_of state.spot) in
+    let came : Progress = step_settled (valued_at iccid state state.spot tag [])
+    (depth_of state.spot) in
     let comes : Progress = Going
     (record state { awaited = Some (record { tag = tag; length = n }) }) in
     either (nat_le 1 state.passed) (Going state)
@@ -88,7 +90,7 @@ heading_good iccid state tag n good =
 
 headed_good : (iccid : List ℕ) (state : State) (tag n : ℕ) (constructed : Bool) → IsGoodState state
     → IsGoodProgress (headed iccid state tag n constructed)
-headed_good iccid state tag n constructed good = either constructed (opening state tag)
+headed_good iccid state tag n constructed good = either constructed (constructed_begins state tag)
     (heading iccid state tag n) (opening_good state tag good) (heading_good iccid state tag n good)
 
 valued_goes : (iccid : List ℕ) (state : State) (bytes : List ℕ) (awaited : Option Awaited)
@@ -97,7 +99,7 @@ valued_goes iccid state bytes None good are = good
 valued_goes iccid state bytes (Some awaited) good are =
     let now : State = record state { awaited = None } in
     either (awaited.length == length bytes)
-    (settled (valued_at iccid now state.spot awaited.tag bytes) (depth_of state.spot))
+    (step_settled (valued_at iccid now state.spot awaited.tag bytes) (depth_of state.spot))
     (Going state)
     (settled_good (valued_at iccid now state.spot awaited.tag bytes) (depth_of state.spot)
     (λ new e. valued_good now new iccid state.spot awaited.tag bytes refl
@@ -107,7 +109,7 @@ valued_goes iccid state bytes (Some awaited) good are =
 closed_goes : (state : State) → IsGoodState state → IsGoodProgress (closed state)
 closed_goes state good = either (nat_le 1 state.passed)
     (Going (record state { passed = state.passed - 1 }))
-    (settled (closed_at state state.spot) (depth_of state.spot - 1))
+    (step_settled (closed_at state state.spot) (depth_of state.spot - 1))
     (with_passed state (state.passed - 1) good)
     (settled_good (closed_at state state.spot) (depth_of state.spot - 1)
     (λ new e. closed_good state new state.spot refl good e))
@@ -203,8 +205,9 @@ no_content place fault content e = cc
 
 at_end_valid : (place : ℕ) (state : State) (spot : Spot) (used : Bool) (content : Content)
     → IsGoodState state → content_at_end place state spot used ≡ Ok content → IsValid content
-at_end_valid place state Ended true content good e = let same : content_of state.draft ≡ content =
-    cc in subst (λ (c : Content). IsValid c) same good.good.valid
+at_end_valid place state Ended true content good e =
+    let same : content_of_draft state.draft ≡ content = cc in
+    subst (λ (c : Content). IsValid c) same good.good.valid
 at_end_valid place state Ended false content good e = absurd
     (no_content (place + 1) Malformed content e)
 at_end_valid place state Start used content good e = absurd
@@ -235,7 +238,7 @@ at_end_valid place state (PinEntry fields) used content good e = absurd
     (no_content (place + 1) Malformed content e)
 
 outcome_valid : (place : ℕ) (progress : Progress) (used : Bool) (content : Content)
-    → IsGoodProgress progress → outcome place progress used ≡ Ok content → IsValid content
+    → IsGoodProgress progress → package_outcome place progress used ≡ Ok content → IsValid content
 outcome_valid place (Going state) used content good e = by
     ((depth_of state.spot == 0) && (state.passed == 0)) e
   where

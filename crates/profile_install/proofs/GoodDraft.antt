@@ -26,7 +26,7 @@ use Rattle.fcp_codec.specs.declared.fcp.Fcp.{Fcp}
 use Rattle.fcp_codec.proofs.CreationFits.{made_fits}
 use Rattle.fcp_codec.proofs.CreationLemmas.{le_of}
 use Rattle.profile_install.specs.Draft.{content_in, filled, head_made, in_use_now, with_new_file}
-use Rattle.profile_install.specs.Package.{content_of}
+use Rattle.profile_install.specs.Package.{content_of_draft}
 use Rattle.profile_install.specs.State.{has_master}
 use Rattle.profile_install.specs.declared.draft.Draft.{Draft}
 use Rattle.profile_install.specs.declared.draft.Filled.{Filled}
@@ -45,7 +45,7 @@ IsPuk named = AreTries named.puk.max named.puk.left
 
 -- the content is valid, and what is left of the quota is what the files don't take
 pub record IsGood (draft : Draft) : Type 0 where
-  pub valid : IsValid (content_of draft)
+  pub valid : IsValid (content_of_draft draft)
   pub left : draft.left + use_of draft.rows ≡ 65536
   pub home : IsThere draft.rows draft.home
   pub numbers : AllByRecursion (λ (pin : PinRow). pin.number ≤ length draft.pins) draft.pins
@@ -122,12 +122,12 @@ bytes_used draft good = omega (arith, good.left)
 -- the head of a new file fits
 pub head_fits : (draft : Draft) (directory : List ℕ) (fcp : Fcp) (head : FileHead) → IsGood draft
     → HoldsFilesAt draft.rows directory
-    → head_made draft directory fcp ≡ Ok head → Fits (content_of draft) (FileAdd head)
+    → head_made draft directory fcp ≡ Ok head → Fits (content_of_draft draft) (FileAdd head)
 head_fits draft directory fcp head good there e =
     let used : in_use_now draft directory fcp ≡ in_use draft.rows directory fcp =
     ap (λ (n : ℕ). let u : InUse = record (in_use draft.rows directory fcp) { bytes = n } in u)
     (bytes_used draft good) in
-    made_fits (content_of draft) directory fcp good.valid there head
+    made_fits (content_of_draft draft) directory fcp good.valid there head
     (ap (λ (u : InUse). created_with u directory fcp) (sym used) ∙ made_is
     (created_with (in_use_now draft directory fcp) directory fcp) head e)
 
@@ -146,7 +146,7 @@ old_there rows head directory there =
 
 -- one file more
 pub goes_with : (draft : Draft) (head : FileHead) → IsGood draft
-    → IsValid (content_of (with_new_file draft head)) → Goes draft (with_new_file draft head)
+    → IsValid (content_of_draft (with_new_file draft head)) → Goes draft (with_new_file draft head)
 goes_with draft head good valid = record {
   good = record {
     valid = valid;

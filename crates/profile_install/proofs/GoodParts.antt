@@ -11,7 +11,7 @@ use Rattle.profile_install.specs.Header.{is_header_whole, with_header_field}
 use Rattle.profile_install.specs.Management.{with_file_made, with_step}
 use Rattle.profile_install.specs.PinEntry.{pin_told, with_pin_field}
 use Rattle.profile_install.specs.PukEntry.{puk_told, with_puk_field}
-use Rattle.profile_install.specs.State.{at, closed_at, file_closed, file_valued, in_parts, managed, template_valued, valued_at, with_pin, with_puk}
+use Rattle.profile_install.specs.State.{at, closed_at, file_closed, file_valued, in_parts, with_managed, template_valued, valued_at, with_new_pin, with_new_puk}
 use Rattle.profile_install.specs.Template.{at_file_end, at_list_end, directory_of, left_out, with_descriptor, with_part, with_template}
 use Rattle.profile_install.specs.declared.draft.Draft.{Draft}
 use Rattle.profile_install.specs.declared.draft.Filled.{Filled}
@@ -61,10 +61,10 @@ module _ (state new : State) where
   -- after a step of a file management element
   to_steps : (spot : Spot) (done : Managed) → IsGoodAt state spot → IsAmong state.draft
       → StepGoes state.draft done
-      → (let r : Result State ElementFault = Ok (managed state Steps done) in r) ≡ Ok new
+      → (let r : Result State ElementFault = Ok (with_managed state Steps done) in r) ≡ Ok new
       → IsGoodState new
   to_steps spot done before among goes e =
-      subst (λ (s : State). IsGoodState s) (ok_is (managed state Steps done) new e)
+      subst (λ (s : State). IsGoodState s) (ok_is (with_managed state Steps done) new e)
       (record {
         good = goes.goes.good;
         standing = goes.standing;
@@ -158,7 +158,7 @@ module _ (state new : State) where
   valued_good iccid (Lists kind seen) tag value is before are e = absurd (not_ok Malformed new e)
   valued_good iccid Steps tag value is before are e =
       let made = then_ok (λ (done : Managed). let r : Result State ElementFault = Ok
-      (managed state Steps done) in r) (with_step state.draft state.standing tag value) new e
+      (with_managed state Steps done) in r) (with_step state.draft state.standing tag value) new e
       in
       to_steps Steps made.0 before before.at
       (step_goes state.draft state.standing made.0 before.good before.standing tag value
@@ -229,11 +229,11 @@ module _ (state new : State) where
   kind_there PinList seen at = at.usim
 
   new_file_closed : (given : Option Fcp) → IsGoodAt state NewFile
-      → then_with (λ done. Ok (managed state Steps done))
+      → then_with (λ done. Ok (with_managed state Steps done))
       (with_file_made state.draft state.standing.directory given) ≡ Ok new → IsGoodState new
   new_file_closed given before e =
       let made = then_ok (λ (done : Managed). let r : Result State ElementFault = Ok
-      (managed state Steps done) in r)
+      (with_managed state Steps done) in r)
       (with_file_made state.draft state.standing.directory given) new e in
       to_steps NewFile made.0 before before.at
       (file_goes state.draft state.standing.directory given made.0 before.good
@@ -244,9 +244,9 @@ module _ (state new : State) where
       → closed_at state (PukEntry fields) ≡ Ok new → IsGoodState new
   puk_closed fields before e =
       let made = then_ok (λ (puk : NamedPuk). let r : Result State ElementFault = Ok
-      (with_puk state puk) in r) (puk_told fields) new e in
+      (with_new_puk state puk) in r) (puk_told fields) new e in
       let good = before.good in
-      subst (λ (s : State). IsGoodState s) (ok_is (with_puk state made.0) new made.2)
+      subst (λ (s : State). IsGoodState s) (ok_is (with_new_puk state made.0) new made.2)
       (record {
         good = record {
           valid = good.valid;
@@ -264,8 +264,8 @@ module _ (state new : State) where
       → closed_at state (PinEntry fields) ≡ Ok new → IsGoodState new
   pin_closed fields before e =
       let made = then_ok (λ (pin : PinRow). let r : Result State ElementFault = Ok
-      (with_pin state pin) in r) (pin_told state.draft fields) new e in
-      subst (λ (s : State). IsGoodState s) (ok_is (with_pin state made.0) new made.2)
+      (with_new_pin state pin) in r) (pin_told state.draft fields) new e in
+      subst (λ (s : State). IsGoodState s) (ok_is (with_new_pin state made.0) new made.2)
       (record {
         good = pin_good state.draft fields made.0 before.good before.at.0.master before.at.1 made.1;
         standing = before.standing;

@@ -4,7 +4,7 @@ use Rattle.std.specs.Prelude.{nat_le}
 use Rattle.fcp_codec.specs.Creation.{HoldsFilesAt}
 use Rattle.fcp_codec.proofs.CreationLemmas.{two_hold}
 use Rattle.profile_install.specs.Header.{no_header_fields}
-use Rattle.profile_install.specs.Management.{at_master}
+use Rattle.profile_install.specs.Management.{fresh_standing}
 use Rattle.profile_install.specs.PinEntry.{no_pin_fields}
 use Rattle.profile_install.specs.PukEntry.{no_puk_fields}
 use Rattle.profile_install.specs.State.{at, element_begins, file_opens, has_master, in_list, in_position, lists_open, opened_at, passing, placed, template_opens}
@@ -258,17 +258,17 @@ module _ (state new : State) (before : IsGoodAt state Elements) where
         };
       }) is.1
 
-  steps_begin : placed (record state { standing = at_master }) (has_master state.draft) state.draft
-      (Lists StepList false) ≡ Ok new → IsGoodState new
+  steps_begin : placed (record state { standing = fresh_standing }) (has_master state.draft)
+      state.draft (Lists StepList false) ≡ Ok new → IsGoodState new
   steps_begin e = if_ok (has_master state.draft)
       (Ok (record state {
-        standing = at_master;
+        standing = fresh_standing;
         draft = state.draft;
         spot = Lists StepList false;
       })) (Err BadParameter) new e
       (λ there yes. subst (λ (s : State). IsGoodState s)
       (ok_is (record state {
-        standing = at_master;
+        standing = fresh_standing;
         draft = state.draft;
         spot = Lists StepList
             false;
@@ -301,7 +301,7 @@ module _ (state new : State) (before : IsGoodAt state Elements) where
       let r7 : Result State ElementFault = cond (tag == 0xA2)
       (placed state there draft (Lists PinList false)) r8 in
       let r6 : Result State ElementFault = cond (tag == 0xA1)
-      (placed (record state { standing = at_master }) there draft (Lists StepList false)) r7 in
+      (placed (record state { standing = fresh_standing }) there draft (Lists StepList false)) r7 in
       let r5 : Result State ElementFault = cond (tag == 0xB5)
       (placed state (there && not draft.isim) (record draft { isim = true })
       (Template (template_list 8))) r6 in
@@ -324,7 +324,7 @@ module _ (state new : State) (before : IsGoodAt state Elements) where
       r5 new n (λ _ y. optional_begins y) (λ _ n.
       if_ok (tag == 0xB5) (placed state (there && not draft.isim) (record draft { isim = true })
       (Template (template_list 8))) r6 new n (λ _ y. isim_begins y) (λ _ n.
-      if_ok (tag == 0xA1) (placed (record state { standing = at_master }) there draft
+      if_ok (tag == 0xA1) (placed (record state { standing = fresh_standing }) there draft
       (Lists StepList false)) r7 new n (λ _ y. steps_begin y) (λ _ n.
       if_ok (tag == 0xA2) (placed state there draft (Lists PinList false)) r8 new n
       (λ _ y. pins_begin y) (λ _ n.

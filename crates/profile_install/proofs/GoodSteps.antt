@@ -19,7 +19,7 @@ use Rattle.fcp_codec.specs.Creation.{HoldsFilesAt}
 use Rattle.fcp_codec.specs.declared.fcp.Fcp.{Fcp}
 use Rattle.profile_install.specs.Draft.{filled, head_made, last_file, skip_count, skipped, with_new_file}
 use Rattle.profile_install.specs.ElementResult.{then_with}
-use Rattle.profile_install.specs.Management.{at_new, content_at, gone_to, in_file, path_in, selected, skip_at, standing_at, standing_at_row, with_file_made, with_step}
+use Rattle.profile_install.specs.Management.{at_new, with_content_step, gone_to, in_file, path_below_master, selected, skip_at, standing_at_place, standing_at_row, with_file_made, with_step}
 use Rattle.profile_install.specs.declared.draft.Draft.{Draft}
 use Rattle.profile_install.specs.declared.draft.Filled.{Filled}
 use Rattle.profile_install.specs.declared.draft.OpenFile.{OpenFile}
@@ -133,7 +133,8 @@ gone_there draft path standing good e = by_place (position (at_path path) draft.
         of_row i row at is e
 
     by_place : (o : Option ℕ) → position (at_path path) draft.rows ≡ o
-        → standing_at draft.rows path o ≡ Ok standing → HoldsFilesAt draft.rows standing.directory
+        → standing_at_place draft.rows path o ≡ Ok standing
+        → HoldsFilesAt draft.rows standing.directory
     by_place None found e = absurd (not_ok BadParameter standing e)
     by_place (Some i) found e = by_row i (slice_get draft.rows i) refl found e
 
@@ -176,7 +177,7 @@ file_goes draft directory (Some fcp) done good there e =
 module _ (draft : Draft) (standing : Standing) (done : Managed) (good : IsGood draft)
     (there : IsThere draft.rows standing.directory) where
   content_goes : (value : List ℕ) (file : Option OpenFile)
-      → content_at draft standing value file ≡ Ok done → StepGoes draft done
+      → with_content_step draft standing value file ≡ Ok done → StepGoes draft done
   content_goes value None e = absurd (not_ok BadParameter done e)
   content_goes value (Some file) e =
       let made = then_ok (λ (its : Filled). let r : Result Managed ElementFault = Ok
@@ -203,7 +204,7 @@ module _ (draft : Draft) (standing : Standing) (done : Managed) (good : IsGood d
       → StepGoes draft done
   step_goes tag value e =
       let third : Result Managed ElementFault = cond (tag == 0x83)
-      (content_at draft standing value standing.file) (Err Malformed) in
+      (with_content_step draft standing value standing.file) (Err Malformed) in
       let second : Result Managed ElementFault = cond (tag == 0x82)
       (then_with (skip_at draft standing standing.file) (skip_count value)) third in
       if_ok (tag == 0x80) (then_with (λ its. Ok (record { draft = draft; standing = its }))
@@ -211,7 +212,7 @@ module _ (draft : Draft) (standing : Standing) (done : Managed) (good : IsGood d
       (λ _ is.
       let made = then_ok (λ (its : Standing). let r : Result Managed ElementFault = Ok
       (record { draft = draft; standing = its }) in r) (selected draft value) done is in
-      let gone = then_ok (gone_to draft.rows) (path_in value) made.0 made.1 in
+      let gone = then_ok (gone_to draft.rows) (path_below_master value) made.0 made.1 in
       let now : Managed = record { draft = draft; standing = made.0 } in
       subst (λ (m : Managed). StepGoes draft m) (ok_is now done made.2)
       (record {
@@ -224,7 +225,7 @@ module _ (draft : Draft) (standing : Standing) (done : Managed) (good : IsGood d
       (λ _ is.
       let made = then_ok (skip_at draft standing standing.file) (skip_count value) done is in
       skip_goes made.0 standing.file made.2)
-      (λ _ last. if_ok (tag == 0x83) (content_at draft standing value standing.file)
+      (λ _ last. if_ok (tag == 0x83) (with_content_step draft standing value standing.file)
       (Err Malformed) done last
       (λ _ is. content_goes value standing.file is)
       (λ _ no. absurd (not_ok Malformed done no))))

@@ -25,7 +25,7 @@ use Rattle.fcp_codec.proofs.CreationLemmas.{le_of, made_is as head_is, two_hold}
 use Rattle.file_templates.specs.Templates.{TemplateRow, is_row_at, row_at, template_rows}
 use Rattle.file_templates.specs.declared.template_row.Row.{Row}
 use Rattle.profile_install.specs.Draft.{head_made, head_of_row, in_use_now, with_new_file}
-use Rattle.profile_install.specs.Package.{content_of}
+use Rattle.profile_install.specs.Package.{content_of_draft}
 use Rattle.profile_install.specs.Template.{directory_of}
 use Rattle.profile_install.specs.TemplateFile.{descriptor_meant, is_kind_kept, is_name_due, parameters_given, parameters_of, row_descriptor}
 use Rattle.profile_install.specs.declared.draft.Draft.{Draft}
@@ -213,7 +213,7 @@ module _ (draft : Draft) (row : Row) (given : Fcp) (good : IsGood draft) where
       head e in
       let rows : new_file head ∷ [] ≡ draft.rows ++ new_file head ∷ [] = ap
       (λ (rows : List FileRow). rows ++ new_file head ∷ []) (sym none) in
-      let valid : IsValid (content_of (with_new_file draft head)) =
+      let valid : IsValid (content_of_draft (with_new_file draft head)) =
       subst (λ (pins : List PinRow). IsValid
       (record { rows = draft.rows ++ new_file head ∷ []; pins = pins }))
       (sym (no_pins draft good none))

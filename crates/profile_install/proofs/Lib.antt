@@ -12,3 +12,10 @@ pub mod GoodSteps
 pub mod GoodState
 pub mod GoodParts
 pub mod GivesValid
+pub mod EachPackage
+pub mod FilesFound
+pub mod KeysFound
+pub mod FirstFaulty
+pub mod OneIccid
+pub mod FilesStay
+pub mod Content

@@ -97,8 +97,8 @@ less old new Close h e = close_less old new h
 less old new More h e = absurd (cc)
 less old new (Bad place) h e = absurd (cc)
 
-last_more : (last next : ReaderState) (part : Part) → HandsOut last part next → is_last part ≡ true
-    → HasNoPart last
+pub last_more : (last next : ReaderState) (part : Part) → HandsOut last part next
+    → is_last part ≡ true → HasNoPart last
 last_more last next (Head tag n place) h e = absurd (cc)
 last_more last next (Bytes count) h e = absurd (cc)
 last_more last next Close h e = absurd (cc)

@@ -1,7 +1,7 @@
 -- Making the files at the positions of a template, one after another.
 use Rattle.std.proofs.Common.{◌≡◌, ℕ, suc, ◌+◌, ◌-◌, ◌<◌, sym, ◌∙◌, ap, Result, Ok, Err, arith}
 use Rattle.file_templates.specs.Templates.{row_at}
-use Rattle.profile_install.specs.ElementResult.{Gives, then_with}
+use Rattle.profile_install.specs.ElementResult.{ComesTo, then_with}
 use Rattle.profile_install.specs.Template.{no_fields, with_row_at, with_rows}
 use Rattle.profile_install.specs.declared.draft.Draft.{Draft}
 use Rattle.profile_install.specs.declared.fault.ElementFault.{ElementFault}
@@ -26,9 +26,9 @@ module _ (template position upto : ℕ) (draft : Draft) (below : position < upto
 
   pub rows_end : (fault : StepFault) (whole : Result Draft ElementFault)
       → with_rows template position (upto - position) draft ≡ whole
-      → Gives (let r : Result Draft StepFault = Err fault in r)
+      → ComesTo (let r : Result Draft StepFault = Err fault in r)
       (with_row_at draft template (row_at template position) no_fields)
-      → Gives (let r : Result Draft StepFault = Err fault in r) whole
+      → ComesTo (let r : Result Draft StepFault = Err fault in r) whole
   rows_end (Refused f) whole e made =
       sym e ∙ step ∙ ap (λ (r : Result Draft ElementFault). then_with
       (with_rows template (position + 1) (upto - (position + 1))) r) made

@@ -19,7 +19,7 @@ then_with step (Ok value) = step value
 then_with step (Err fault) = Err fault
 
 -- what a step answers, where it is meant to come to this
-abbrev pub Gives : {S : Type 0} → Result S StepFault → Result S ElementFault → Type 0
-Gives (Ok value) meant = meant ≡ Ok value
-Gives (Err (Refused fault)) meant = meant ≡ Err fault
-Gives (Err OutOfMemory) meant = ⊤
+abbrev pub ComesTo : {S : Type 0} → Result S StepFault → Result S ElementFault → Type 0
+ComesTo (Ok value) meant = meant ≡ Ok value
+ComesTo (Err (Refused fault)) meant = meant ≡ Err fault
+ComesTo (Err OutOfMemory) meant = ⊤

@@ -1,3 +1,5 @@
+pub mod FileKeys
+pub mod DraftFiles
 pub mod ElementResult
 pub mod TemplateFile
 pub mod Values
@@ -11,3 +13,5 @@ pub mod State
 pub mod Package
 pub mod BuilderState
 pub mod Builder
+pub mod FirstFaulty
+pub mod Room

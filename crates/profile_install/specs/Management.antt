@@ -16,19 +16,19 @@ use Rattle.profile_install.specs.declared.management.Managed.{Managed}
 use Rattle.profile_install.specs.declared.management.Standing.{Standing}
 
 -- at the MF, with no EF
-abbrev pub at_master : Standing
-at_master = record { directory = []; file = None }
+abbrev pub fresh_standing : Standing
+fresh_standing = record { directory = []; file = None }
 
 -- a path below the MF: at most four identifiers of two bytes
-abbrev pub path_in : List ℕ → Result (List ℕ) ElementFault
-path_in [] = Ok []
-path_in (a ∷ b ∷ []) = Ok ((a * 256 + b) ∷ [])
-path_in (a ∷ b ∷ c ∷ d ∷ []) = Ok ((a * 256 + b) ∷ (c * 256 + d) ∷ [])
-path_in (a ∷ b ∷ c ∷ d ∷ e ∷ f ∷ []) =
+abbrev pub path_below_master : List ℕ → Result (List ℕ) ElementFault
+path_below_master [] = Ok []
+path_below_master (a ∷ b ∷ []) = Ok ((a * 256 + b) ∷ [])
+path_below_master (a ∷ b ∷ c ∷ d ∷ []) = Ok ((a * 256 + b) ∷ (c * 256 + d) ∷ [])
+path_below_master (a ∷ b ∷ c ∷ d ∷ e ∷ f ∷ []) =
     Ok ((a * 256 + b) ∷ (c * 256 + d) ∷ (e * 256 + f) ∷ [])
-path_in (a ∷ b ∷ c ∷ d ∷ e ∷ f ∷ g ∷ h ∷ []) =
+path_below_master (a ∷ b ∷ c ∷ d ∷ e ∷ f ∷ g ∷ h ∷ []) =
     Ok ((a * 256 + b) ∷ (c * 256 + d) ∷ (e * 256 + f) ∷ (g * 256 + h) ∷ [])
-path_in value = if length value % 2 == 1 then Err Malformed else Err BadParameter
+path_below_master value = if length value % 2 == 1 then Err Malformed else Err BadParameter
 
 abbrev pub standing_at_row : List ℕ → ℕ → Option FileRow → Result Standing ElementFault
 standing_at_row path index None = Err BadParameter
@@ -39,17 +39,17 @@ standing_at_row path index (Some row) =
       file = Some (record { index = index; place = 0 });
     })
 
-abbrev pub standing_at : List FileRow → List ℕ → Option ℕ → Result Standing ElementFault
-standing_at rows path None = Err BadParameter
-standing_at rows path (Some index) = standing_at_row path index (slice_get rows index)
+abbrev pub standing_at_place : List FileRow → List ℕ → Option ℕ → Result Standing ElementFault
+standing_at_place rows path None = Err BadParameter
+standing_at_place rows path (Some index) = standing_at_row path index (slice_get rows index)
 
 -- `80` goes to a directory that is there, or to an EF, into which content then goes
 abbrev pub gone_to : List FileRow → List ℕ → Result Standing ElementFault
 gone_to rows path =
-    standing_at rows path (position (λ (row : FileRow). same_path row.head.path path) rows)
+    standing_at_place rows path (position (λ (row : FileRow). same_path row.head.path path) rows)
 
 abbrev pub selected : Draft → List ℕ → Result Standing ElementFault
-selected draft value = then_with (gone_to draft.rows) (path_in value)
+selected draft value = then_with (gone_to draft.rows) (path_below_master value)
 
 -- at a file that was made last in a directory
 abbrev pub at_new : Draft → List ℕ → FileHead → Managed
@@ -72,9 +72,10 @@ in_file standing done =
     record { draft = done.draft; standing = record standing { file = Some done.file } }
 
 -- content goes into the current EF
-abbrev pub content_at : Draft → Standing → List ℕ → Option OpenFile → Result Managed ElementFault
-content_at draft standing value None = Err BadParameter
-content_at draft standing value (Some file) =
+abbrev pub with_content_step : Draft → Standing → List ℕ → Option OpenFile
+    → Result Managed ElementFault
+with_content_step draft standing value None = Err BadParameter
+with_content_step draft standing value (Some file) =
     then_with (λ done. Ok (in_file standing done)) (filled draft file value)
 
 abbrev pub skip_at : Draft → Standing → Option OpenFile → ℕ → Result Managed ElementFault
@@ -88,4 +89,5 @@ with_step draft standing tag value =
     if tag == 0x80 then then_with (λ its. Ok (record { draft = draft; standing = its }))
     (selected draft value)
     else (if tag == 0x82 then then_with (skip_at draft standing standing.file) (skip_count value)
-    else (if tag == 0x83 then content_at draft standing value standing.file else Err Malformed))
+    else (if tag == 0x83 then with_content_step draft standing value standing.file
+    else Err Malformed))

@@ -26,14 +26,14 @@ use Rattle.profile_install.specs.declared.work.Work.{Work}
 
 -- an element with a fault goes on to its end, since one that isn't whole is malformed before all
 -- else
-abbrev pub with_fault : ElementFault → ℕ → Progress
-with_fault fault depth =
+abbrev pub element_with_fault : ElementFault → ℕ → Progress
+element_with_fault fault depth =
     if depth == 0 then Refused fault else Broken (record { fault = fault; depth = depth })
 
 -- what comes of a step, so many TLVs of the element being open after it
-abbrev pub settled : Result State ElementFault → ℕ → Progress
-settled (Ok state) depth = Going state
-settled (Err fault) depth = with_fault fault depth
+abbrev pub step_settled : Result State ElementFault → ℕ → Progress
+step_settled (Ok state) depth = Going state
+step_settled (Err fault) depth = element_with_fault fault depth
 
 -- the bytes of a descriptor, or of a new file's control parameters, are read whole at their end
 abbrev pub is_gathering : Spot → Bool
@@ -57,29 +57,30 @@ gathering state bytes =
     if is_gathering state.spot then record state { gathered = state.gathered ++ bytes } else state
 
 -- a constructed TLV begins
-abbrev pub opening : State → ℕ → Progress
-opening state tag =
+abbrev pub constructed_begins : State → ℕ → Progress
+constructed_begins state tag =
     if nat_le 1 state.passed then Going (record state { passed = state.passed + 1 })
-    else settled (opened_at state state.spot tag) (depth_of state.spot + 1)
+    else step_settled (opened_at state state.spot tag) (depth_of state.spot + 1)
 
 -- the head of a primitive TLV, whose value comes next, where it has one
 abbrev pub heading : List ℕ → State → ℕ → ℕ → Progress
 heading iccid state tag n =
     if nat_le 1 state.passed then Going state
     else (if (n == 0) || (depth_of state.spot == 0)
-    then settled (valued_at iccid state state.spot tag []) (depth_of state.spot)
+    then step_settled (valued_at iccid state state.spot tag []) (depth_of state.spot)
     else Going (record state { awaited = Some (record { tag = tag; length = n }) }))
 
 abbrev pub headed : List ℕ → State → ℕ → ℕ → Bool → Progress
 headed iccid state tag n constructed =
-    if constructed then opening state tag else heading iccid state tag n
+    if constructed then constructed_begins state tag else heading iccid state tag n
 
 -- a whole value came, or so much of one as there is
 abbrev pub valued : List ℕ → State → List ℕ → Option Awaited → Progress
 valued iccid state bytes None = Going state
 valued iccid state bytes (Some awaited) =
     if awaited.length == length bytes
-    then settled (valued_at iccid (record state { awaited = None }) state.spot awaited.tag bytes)
+    then step_settled
+    (valued_at iccid (record state { awaited = None }) state.spot awaited.tag bytes)
     (depth_of state.spot)
     else Going state
 
@@ -87,14 +88,14 @@ valued iccid state bytes (Some awaited) =
 abbrev pub closed : State → Progress
 closed state =
     if nat_le 1 state.passed then Going (record state { passed = state.passed - 1 })
-    else settled (closed_at state state.spot) (depth_of state.spot - 1)
+    else step_settled (closed_at state state.spot) (depth_of state.spot - 1)
 
 -- a part of an element with a fault
 abbrev pub broken : Faulty → Part → List ℕ → Progress
 broken faulty (Head tag n place) bytes =
     if opens bytes then Broken (record faulty { depth = faulty.depth + 1 }) else Broken faulty
 broken faulty (Bytes count) bytes = Broken faulty
-broken faulty Close bytes = with_fault faulty.fault (faulty.depth - 1)
+broken faulty Close bytes = element_with_fault faulty.fault (faulty.depth - 1)
 broken faulty More bytes = Broken faulty
 broken faulty (Bad place) bytes = Broken faulty
 
@@ -148,26 +149,26 @@ fresh_work = record { place = 0; progress = Going fresh_state }
 abbrev pub refused_at : ℕ → ElementFault → Result Content Refusal
 refused_at place fault = Err (record { place = place; result = result_number fault })
 
-abbrev pub content_of : Draft → Content
-content_of draft = record { rows = draft.rows; pins = draft.pins }
+abbrev pub content_of_draft : Draft → Content
+content_of_draft draft = record { rows = draft.rows; pins = draft.pins }
 
 -- where no element is open, the end has to have come, with nothing behind it
 abbrev pub content_at_end : ℕ → State → Spot → Bool → Result Content Refusal
 content_at_end place state Ended used_up =
-    if used_up then Ok (content_of state.draft) else refused_at (place + 1) Malformed
+    if used_up then Ok (content_of_draft state.draft) else refused_at (place + 1) Malformed
 content_at_end place state spot used_up = refused_at (place + 1) Malformed
 
 -- what a package comes to where no whole part is left, and whether all its bytes are used up
-abbrev pub outcome : ℕ → Progress → Bool → Result Content Refusal
-outcome place (Going state) used_up =
+abbrev pub package_outcome : ℕ → Progress → Bool → Result Content Refusal
+package_outcome place (Going state) used_up =
     if (depth_of state.spot == 0) && (state.passed == 0)
     then content_at_end place state state.spot used_up
     else refused_at place Malformed
-outcome place (Broken faulty) used_up = refused_at place Malformed
-outcome place (Refused fault) used_up = refused_at place fault
+package_outcome place (Broken faulty) used_up = refused_at place Malformed
+package_outcome place (Refused fault) used_up = refused_at place fault
 
 abbrev pub work_outcome : Work → Bool → Result Content Refusal
-work_outcome work used_up = outcome work.place work.progress used_up
+work_outcome work used_up = package_outcome work.place work.progress used_up
 
 -- what a builder answers, where a package is meant to come to this; out of memory is the one free
 -- answer

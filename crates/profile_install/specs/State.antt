@@ -5,7 +5,7 @@ use Rattle.file_rows.specs.declared.pin.PinRow.{PinRow}
 use Rattle.profile_install.specs.ElementResult.{then_with}
 use Rattle.profile_install.specs.Draft.{fresh_draft}
 use Rattle.profile_install.specs.Header.{is_header_whole, no_header_fields, with_header_field}
-use Rattle.profile_install.specs.Management.{at_master, with_file_made, with_step}
+use Rattle.profile_install.specs.Management.{fresh_standing, with_file_made, with_step}
 use Rattle.profile_install.specs.PinEntry.{no_pin_fields, pin_told, with_pin_field}
 use Rattle.profile_install.specs.PukEntry.{no_puk_fields, puk_told, with_puk_field}
 use Rattle.profile_install.specs.Template.{at_file_end, at_list_end, at_position, left_out, template_list, with_descriptor, with_part, with_template}
@@ -28,7 +28,7 @@ abbrev pub fresh_state : State
 fresh_state = record {
   draft = fresh_draft;
   spot = Start;
-  standing = at_master;
+  standing = fresh_standing;
   gathered = [];
   passed = 0;
   awaited = None;
@@ -80,7 +80,7 @@ element_begins state tag =
     else (if tag == 0xB4 then placed state (there && draft.usim) draft (Template (template_list 5))
     else (if tag == 0xB5 then placed state (there && not draft.isim)
     (record draft { isim = true }) (Template (template_list 8))
-    else (if tag == 0xA1 then placed (record state { standing = at_master }) there draft
+    else (if tag == 0xA1 then placed (record state { standing = fresh_standing }) there draft
     (Lists StepList false)
     else (if tag == 0xA2 then placed state there draft (Lists PinList false)
     else (if tag == 0xA3 then Ok (at state (Lists PukList false))
@@ -158,8 +158,8 @@ template_valued state list tag value =
     then then_with (λ list. Ok (at state (Template list))) (with_template list value)
     else Err Malformed
 
-abbrev pub managed : State → Spot → Managed → State
-managed state spot done =
+abbrev pub with_managed : State → Spot → Managed → State
+with_managed state spot done =
     record state { draft = done.draft; standing = done.standing; spot = spot }
 
 -- a primitive TLV with its value
@@ -173,7 +173,7 @@ valued_at iccid state (Template list) tag value = template_valued state list tag
 valued_at iccid state (File list parts) tag value = file_valued state list parts tag value
 valued_at iccid state (Descriptor list) tag value = Ok state
 valued_at iccid state (Lists kind seen) tag value = Err Malformed
-valued_at iccid state Steps tag value = then_with (λ done. Ok (managed state Steps done))
+valued_at iccid state Steps tag value = then_with (λ done. Ok (with_managed state Steps done))
     (with_step state.draft state.standing tag value)
 valued_at iccid state NewFile tag value = Ok state
 valued_at iccid state Puks tag value = Err Malformed
@@ -183,14 +183,14 @@ valued_at iccid state Pins tag value = Err Malformed
 valued_at iccid state (PinEntry fields) tag value = then_with
     (λ fields. Ok (at state (PinEntry fields))) (with_pin_field state.draft fields tag value)
 
-abbrev pub with_puk : State → NamedPuk → State
-with_puk state puk = record state {
+abbrev pub with_new_puk : State → NamedPuk → State
+with_new_puk state puk = record state {
   draft = record state.draft { puks = state.draft.puks ++ puk ∷ [] };
   spot = Puks;
 }
 
-abbrev pub with_pin : State → PinRow → State
-with_pin state pin = record state {
+abbrev pub with_new_pin : State → PinRow → State
+with_new_pin state pin = record state {
   draft = record state.draft { pins = state.draft.pins ++ pin ∷ [] };
   spot = Pins;
 }
@@ -214,10 +214,10 @@ closed_at state (Descriptor list) = then_with (λ done. Ok (in_parts state list 
     (with_descriptor state.draft list (fields_in state.gathered))
 closed_at state (Lists kind seen) = if seen then Ok (at state Elements) else Err Malformed
 closed_at state Steps = Ok (at state (Lists StepList true))
-closed_at state NewFile = then_with (λ done. Ok (managed state Steps done))
+closed_at state NewFile = then_with (λ done. Ok (with_managed state Steps done))
     (with_file_made state.draft state.standing.directory (fields_in state.gathered))
 closed_at state Puks = Ok (at state (Lists PukList true))
-closed_at state (PukEntry fields) = then_with (λ puk. Ok (with_puk state puk)) (puk_told fields)
+closed_at state (PukEntry fields) = then_with (λ puk. Ok (with_new_puk state puk)) (puk_told fields)
 closed_at state Pins = Ok (at state (Lists PinList true))
-closed_at state (PinEntry fields) = then_with (λ pin. Ok (with_pin state pin))
+closed_at state (PinEntry fields) = then_with (λ pin. Ok (with_new_pin state pin))
     (pin_told state.draft fields)

@@ -1,26 +1,22 @@
 //! What the elements of a package have made so far.
-ghost use Rattle.std.specs.Prelude.{◌≡◌, ◌==◌, ◌&&◌, ◌+◌, ◌≤◌, IfOk, IsSomeAnd, is_some, length, slice_get, slice_set};
-ghost use Rattle.std.specs.Str.{bytes_eq};
-ghost use Rattle.file_rows.specs.Change.{new_file, with_body, written};
-ghost use Rattle.file_rows.specs.Content.{file_at};
-ghost use Rattle.file_rows.specs.FileHead.{is_application};
+ghost use Rattle.std.specs.Prelude.{◌≡◌, ◌+◌, ◌<◌, ◌^◌, [], IfOk, IsTrue, slice_get, unwrap_or};
+ghost use Rattle.file_rows.specs.Change.{new_file};
 ghost use Rattle.file_rows.specs.Find.{is_id_used, is_name_used, is_sfi_used};
-ghost use Rattle.file_rows.specs.Path.{is_in, same_path};
-ghost use Rattle.profile_install.specs.Draft.{filled, fresh_draft, head_made, head_of_row, in_use_now, last_file, skip_count, skipped, with_new_file, with_sfi};
+ghost use Rattle.profile_install.specs.Draft.{content_in, filled, fresh_draft, head_made, head_of_row, in_use_now, last_file, skip_count, skipped, with_new_file};
+ghost use Rattle.profile_install.specs.Room.{has_room};
 
-use crate::{ElementFault, NamedPuk, StepFault, file_head, file_parameters, master_head};
+use crate::{DraftFiles, ElementFault, NamedPuk, file_head, file_parameters, master_head};
 use fcp_codec::{Fcp, InUse};
 use file_rows::{FileHead, FileRow, NoMemory, Path, PinRow, QUOTA};
 use file_templates::Row;
 use plain_lists::{LongList, ShortList};
 use std::alloc::Global;
-use std::mem;
 
 /// What the elements of a package have made so far.
 #[derive(Drop)]
 pub struct Draft {
     /// The files, in the order in which they were made.
-    pub rows: LongList<FileRow>,
+    pub rows: DraftFiles,
     pub pins: LongList<PinRow>,
     pub puks: LongList<NamedPuk>,
     /// The directory or application that was made last.
@@ -40,12 +36,6 @@ pub struct OpenFile {
     pub index: usize,
     /// Where the next content goes, in bytes from the beginning.
     pub place: usize,
-}
-
-fn is_at(row: &FileRow, path: &[u16]) -> bool
-    ensures { result ≡ same_path row.now.head.path path.now }
-{
-    row.head.path.as_slice() == path
 }
 
 fn new_file(alloc: Global, head: &FileHead) -> Result<FileRow, NoMemory>
@@ -88,88 +78,39 @@ pub struct Filled {
     pub file: OpenFile,
 }
 
-fn has_path(rows: &[FileRow], path: &[u16]) -> bool
-    ensures { result ≡ is_some (file_at path.now rows.now) }
-{
-    for row in rows {
-        if is_at(row, path) {
-            return true;
-        }
-    }
-    false
-}
-
-fn is_id_used(rows: &[FileRow], directory: &Path, id: u16) -> bool
-    ensures { result ≡ is_id_used rows.now directory.now id }
+fn is_id_used(files: &DraftFiles, directory: &Path, id: u16) -> bool
+    ensures { result ≡ is_id_used files.now directory.now id }
 {
     let mut path: ShortList<u16, 5> = ShortList::from_slice(directory.as_slice());
     path.push(id);
-    has_path(rows, path.as_slice())
+    files.has_path(path.as_slice())
 }
 
-// Whether a file stands in a directory, and has this SFI.
-fn is_with_sfi(row: &FileRow, directory: &Path, sfi: u8) -> bool
-    ensures { result ≡ is_in directory.now row.now.head.path && (row.now.head.sfi == sfi) }
+fn is_sfi_used(files: &DraftFiles, directory: &Path, sfi: u8) -> bool
+    ensures { result ≡ is_sfi_used files.now directory.now sfi }
 {
-    let path = &row.head.path;
-    path.as_slice().starts_with(directory.as_slice())
-        && path.len() == directory.len() + 1
-        && row.head.sfi == sfi
+    sfi != 0 && files.has_sfi(directory, sfi)
 }
 
-fn has_sfi(rows: &[FileRow], directory: &Path, sfi: u8) -> bool
-    ensures { result ≡ is_some (with_sfi directory.now sfi rows.now) }
+fn is_name_used(files: &DraftFiles, name: &Option<ShortList<u8, 17>>) -> bool
+    ensures { result ≡ is_name_used files.now (unwrap_or name.now []) }
 {
-    for row in rows {
-        if is_with_sfi(row, directory, sfi) {
-            return true;
-        }
+    match name {
+        Some(name) => files.has_name(name.as_slice()),
+        None => files.has_name(&[]),
     }
-    false
 }
 
-fn is_sfi_used(rows: &[FileRow], directory: &Path, sfi: u8) -> bool
-    ensures { result ≡ is_sfi_used rows.now directory.now sfi }
+// Whether a file is there, and has so many bytes from its place on.
+fn has_room(rows: &[FileRow], file: OpenFile, count: usize) -> bool
+    ensures room { result ≡ has_room file.place count (slice_get rows.now file.index) }
+    ensures small { IsTrue result → file.place + count < 2 ^ 64 }
 {
-    sfi != 0 && has_sfi(rows, directory, sfi)
-}
-
-fn is_named(row: &FileRow, name: &[u8]) -> bool
-    ensures { result ≡ is_application row.now.head.kind && bytes_eq row.now.head.name name.now }
-{
-    row.head.kind.is_application() && row.head.name.as_slice() == name
-}
-
-fn has_name(rows: &[FileRow], name: &[u8]) -> bool
-    ensures { result ≡ is_name_used rows.now name.now }
-{
-    for row in rows {
-        if is_named(row, name) {
-            return true;
-        }
-    }
-    false
-}
-
-// The body of a file, with these bytes from a place on.
-fn written(body: &mut LongList<u8>, place: usize, bytes: &[u8])
-    requires { place + length bytes.now ≤ length body.old }
-    ensures { body.new ≡ written place bytes.now body.old }
-{
-    let alloc = body.allocator();
-    let mut its = Vec::from(mem::replace(body, LongList::new(alloc)));
-    its[place..place + bytes.len()].copy_from_slice(bytes);
-    *body = LongList::from(its);
-}
-
-// A file among others gets content.
-fn write_row(rows: &mut [FileRow], index: usize, place: usize, bytes: &[u8])
-    requires { IsSomeAnd (slice_get rows.old index)
-        (λ row. place + length bytes.now ≤ length row.body) }
-    ensures { IsSomeAnd (slice_get rows.old index)
-        (λ row. rows.new ≡ slice_set rows.old index (with_body (written place bytes.now) row)) }
-{
-    written(&mut rows[index].body, place, bytes);
+    let Some(row) = rows.get(file.index) else {
+        return false;
+    };
+    let size = row.body.len();
+    file.place <= size && count <= size - file.place
 }
 
 impl Draft {
@@ -178,7 +119,7 @@ impl Draft {
         ensures { result ≡ fresh_draft }
     {
         Draft {
-            rows: LongList::new(alloc),
+            rows: DraftFiles::new(alloc),
             pins: LongList::new(alloc),
             puks: LongList::new(alloc),
             home: Path::new(),
@@ -189,19 +130,14 @@ impl Draft {
         }
     }
 
-    // What of a new file's parameters is in use. It looks at the head of each file.
+    // What of a new file's parameters is in use.
     fn in_use_now(&self, directory: &Path, fcp: &Fcp) -> InUse
         ensures { result ≡ in_use_now self.now directory.now fcp.now }
     {
-        let name: &[u8] = match &fcp.name {
-            Some(name) => name.as_slice(),
-            None => &[],
-        };
-        let rows = self.rows.as_slice();
         InUse {
-            id: is_id_used(rows, directory, fcp.id.unwrap_or(0)),
-            sfi: is_sfi_used(rows, directory, fcp.sfi_meant()),
-            name: has_name(rows, name),
+            id: is_id_used(&self.rows, directory, fcp.id.unwrap_or(0)),
+            sfi: is_sfi_used(&self.rows, directory, fcp.sfi_meant()),
+            name: is_name_used(&self.rows, &fcp.name),
             bytes: QUOTA.saturating_sub(self.left),
         }
     }
@@ -236,7 +172,7 @@ impl Draft {
     {
         let mut draft = self;
         let row = new_file(draft.rows.allocator(), head)?;
-        draft.rows.push(row)?;
+        draft.rows = draft.rows.with_file(row)?;
         if head.kind.holds_files() {
             draft.home = head.path.copy();
         }
@@ -254,21 +190,6 @@ impl Draft {
         }
     }
 
-    fn write(&mut self, file: OpenFile, bytes: &[u8])
-        requires { IsSomeAnd (slice_get self.old.rows file.index)
-            (λ row. file.place + length bytes.now ≤ length row.body) }
-        ensures { IsSomeAnd (slice_get self.old.rows file.index)
-            (λ row. self.new ≡ record self.old {
-              rows = slice_set self.old.rows file.index
-                  (with_body (written file.place bytes.now) row);
-            }) }
-    {
-        let alloc = self.rows.allocator();
-        let mut rows = Vec::from(mem::replace(&mut self.rows, LongList::new(alloc)));
-        write_row(rows.as_mut_slice(), file.index, file.place, bytes);
-        self.rows = LongList::from(rows);
-    }
-
     /// Content goes into a file, from its present place on. It copies the bytes once, and takes no
     /// memory.
     ///
@@ -276,18 +197,20 @@ impl Draft {
     pub fn fill(self, file: OpenFile, bytes: &[u8]) -> Result<Filled, ElementFault>
         ensures { result ≡ filled self file bytes.now }
     {
-        let mut draft = self;
         if bytes.is_empty() {
-            return Ok(Filled { draft, file });
+            return Ok(Filled { draft: self, file });
         }
-        let Some(row) = draft.rows.as_slice().get(file.index) else {
-            return Err(ElementFault::BadParameter);
-        };
-        let size = row.body.len();
-        if size < file.place || size - file.place < bytes.len() {
+        self.fill_some(file, bytes)
+    }
+
+    fn fill_some(self, file: OpenFile, bytes: &[u8]) -> Result<Filled, ElementFault>
+        ensures { result ≡ content_in self file bytes.now (slice_get self.rows file.index) }
+    {
+        let mut draft = self;
+        if !has_room(draft.rows.as_slice(), file, bytes.len()) {
             return Err(ElementFault::BadParameter);
         }
-        draft.write(file, bytes);
+        draft.rows.write(file.index, file.place, bytes);
         let file = OpenFile {
             index: file.index,
             place: file.place + bytes.len(),

@@ -1,5 +1,5 @@
 //! What holds of the content that a package makes.
-ghost use Rattle.std.specs.Prelude.{◌≡◌, ◌<◌, ◌^◌, List, ℕ, Ok, Result, [], ◌∷◌};
+ghost use Rattle.std.specs.Prelude.{◌≡◌, ◌+◌, ◌<◌, ◌^◌, List, ℕ, Err, Ok, Result, [], ◌∷◌};
 ghost use Rattle.std.specs.List.{AllByRecursion};
 ghost use Rattle.file_rows.specs.Change.{Fits, new_file};
 ghost use Rattle.file_rows.specs.Content.{IsValid};
@@ -9,6 +9,7 @@ ghost use Rattle.file_rows.specs.declared.head.FileHead.{FileHead};
 ghost use Rattle.fcp_codec.specs.Creation.{HoldsFilesAt};
 ghost use Rattle.fcp_codec.specs.declared.fcp.Fcp.{Fcp};
 ghost use Rattle.file_templates.specs.declared.template_row.Row.{Row};
+ghost use Rattle.profile_install.specs.FirstFaulty.{HasGoodElements, IsPackageResult};
 ghost use Rattle.profile_install.specs.Package.{PackageGives};
 ghost use Rattle.profile_install.specs.declared.work.Refusal.{Refusal};
 ghost use Rattle.profile_install.specs.TemplateFile.{described, described_master};
@@ -25,11 +26,30 @@ pub fn template_files_fit()
         → IsValid (record { rows = new_file head ∷ []; pins = [] }) }
 {}
 
-/// The bytes of a package give one answer: a content, or the place and the result of the first
-/// faulty element.
+/// Whatever the bytes of a package and the ICCID, they give an answer, and no other one: a content,
+/// or the place and the result of the first faulty element.
 pub fn one_answer_of_a_package()
-    ensures { (iccid bytes : List ℕ) (one other : Result Content Refusal)
+    ensures there { (iccid bytes : List ℕ)
+        → (answer : Result Content Refusal) × PackageGives iccid bytes answer }
+    ensures alone { (iccid bytes : List ℕ) (one other : Result Content Refusal)
         → PackageGives iccid bytes one → PackageGives iccid bytes other → one ≡ other }
+{}
+
+/// A refusal has one of the five results, and names the first faulty element: in front of it stand
+/// the elements that its place counts, and none of them has a fault.
+pub fn refusals_name_the_first_faulty_element()
+    ensures first { (iccid bytes : List ℕ) (refusal : Refusal)
+        → PackageGives iccid bytes (Err refusal)
+        → (before : ℕ) × (refusal.place ≡ before + 1) × HasGoodElements iccid bytes before }
+    ensures number { (iccid bytes : List ℕ) (refusal : Refusal)
+        → PackageGives iccid bytes (Err refusal) → IsPackageResult refusal.result }
+{}
+
+/// A package gives a content for one ICCID alone, that of its header.
+pub fn packages_are_for_one_iccid()
+    ensures { (one other bytes : List ℕ) (content another : Content)
+        → PackageGives one bytes (Ok content) → PackageGives other bytes (Ok another)
+        → one ≡ other }
 {}
 
 /// What a package gives is a content that a card may hold: its files are a tree under the MF and

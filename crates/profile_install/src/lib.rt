@@ -3,6 +3,7 @@
 
 mod builder;
 mod draft;
+mod draft_files;
 mod fault;
 mod header;
 mod laws;
@@ -18,10 +19,14 @@ mod work;
 
 pub use builder::Builder;
 pub use draft::{Draft, Filled, OpenFile};
+pub use draft_files::DraftFiles;
 pub use fault::{ElementFault, StepFault};
 pub use file_rows::NoMemory;
 pub use header::HeaderFields;
-pub use laws::{one_answer_of_a_package, packages_give_valid_contents, template_files_fit};
+pub use laws::{
+    one_answer_of_a_package, packages_are_for_one_iccid, packages_give_valid_contents,
+    refusals_name_the_first_faulty_element, template_files_fit,
+};
 pub use management::{Managed, Standing};
 pub use pin_entry::PinFields;
 pub use puk_entry::{NamedPuk, PukFields};

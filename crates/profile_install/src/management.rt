@@ -1,12 +1,10 @@
 //! The steps of a file management element.
-ghost use Rattle.std.specs.Prelude.{◌≡◌, ◌+◌, ◌*◌, position, Some, Ok};
-ghost use Rattle.file_rows.specs.Path.{same_path};
-ghost use Rattle.file_rows.specs.declared.row.FileRow.{FileRow};
-ghost use Rattle.profile_install.specs.ElementResult.{Gives};
-ghost use Rattle.profile_install.specs.Management.{at_master, at_new, content_at, gone_to, path_in, selected, skip_at, standing_at_row, with_file_made, with_step};
+ghost use Rattle.std.specs.Prelude.{◌≡◌, ◌+◌, ◌*◌, Some, Ok};
+ghost use Rattle.profile_install.specs.ElementResult.{ComesTo};
+ghost use Rattle.profile_install.specs.Management.{at_new, fresh_standing, gone_to, path_below_master, selected, skip_at, standing_at_place, standing_at_row, with_content_step, with_file_made, with_step};
 
 use crate::draft::skip_count;
-use crate::{Draft, ElementFault, OpenFile, StepFault};
+use crate::{Draft, DraftFiles, ElementFault, OpenFile, StepFault};
 use fcp_codec::Fcp;
 use file_rows::{FileHead, FileRow, Path, parent_of};
 
@@ -33,8 +31,8 @@ fn id_of(high: u8, low: u8) -> u16
 }
 
 // A path below the MF.
-fn path_in(value: &[u8]) -> Result<Path, ElementFault>
-    ensures { result ≡ path_in value.now }
+fn path_below_master(value: &[u8]) -> Result<Path, ElementFault>
+    ensures { result ≡ path_below_master value.now }
 {
     match value {
         [] => Ok(Path::new()),
@@ -53,18 +51,6 @@ fn path_in(value: &[u8]) -> Result<Path, ElementFault>
     }
 }
 
-fn is_at(row: &FileRow, path: &Path) -> bool
-    ensures { result ≡ same_path row.now.head.path path.now }
-{
-    row.head.path.as_slice() == path.as_slice()
-}
-
-fn place_of(rows: &[FileRow], path: &Path) -> Option<usize>
-    ensures { result ≡ position (λ (row : FileRow). same_path row.head.path path.now) rows.now }
-{
-    rows.iter().position(|row| is_at(row, path))
-}
-
 fn standing_at_row(path: Path, index: usize, row: &FileRow) -> Standing
     ensures { standing_at_row path index (Some row.now) ≡ Ok result }
 {
@@ -80,15 +66,21 @@ fn standing_at_row(path: Path, index: usize, row: &FileRow) -> Standing
     }
 }
 
-// The place of a file that is there.
-fn gone_to(rows: &[FileRow], path: Path) -> Result<Standing, ElementFault>
-    ensures { result ≡ gone_to rows.now path }
+fn standing_at_place(rows: &[FileRow], path: Path, index: usize) -> Result<Standing, ElementFault>
+    ensures { result ≡ standing_at_place rows.now path (Some index) }
 {
-    let Some(index) = place_of(rows, &path) else {
-        return Err(ElementFault::BadParameter);
-    };
     match rows.get(index) {
         Some(row) => Ok(standing_at_row(path, index, row)),
+        None => Err(ElementFault::BadParameter),
+    }
+}
+
+// The place of a file that is there.
+fn gone_to(files: &DraftFiles, path: Path) -> Result<Standing, ElementFault>
+    ensures { result ≡ gone_to files.now path }
+{
+    match files.place_of(path.as_slice()) {
+        Some(index) => standing_at_place(files.as_slice(), path, index),
         None => Err(ElementFault::BadParameter),
     }
 }
@@ -96,7 +88,7 @@ fn gone_to(rows: &[FileRow], path: Path) -> Result<Standing, ElementFault>
 impl Standing {
     /// At the MF, with no EF.
     pub fn new() -> Standing
-        ensures { result ≡ at_master }
+        ensures { result ≡ fresh_standing }
     {
         Standing {
             directory: Path::new(),
@@ -108,8 +100,8 @@ impl Standing {
     fn selected(draft: &Draft, value: &[u8]) -> Result<Standing, ElementFault>
         ensures { result ≡ selected draft.now value.now }
     {
-        let path = path_in(value)?;
-        gone_to(draft.rows.as_slice(), path)
+        let path = path_below_master(value)?;
+        gone_to(&draft.rows, path)
     }
 
     /// A step with a value: `80` goes to the file at a path below the MF, `82` skips in the current
@@ -130,7 +122,7 @@ impl Standing {
                 let count = skip_count(value)?;
                 self.skip_at(draft, count)
             }
-            0x83 => self.content_at(draft, value),
+            0x83 => self.with_content_step(draft, value),
             _ => Err(ElementFault::Malformed),
         }
     }
@@ -149,8 +141,8 @@ impl Standing {
         Ok(Managed { draft, standing })
     }
 
-    fn content_at(self, draft: Draft, value: &[u8]) -> Result<Managed, ElementFault>
-        ensures { result ≡ content_at draft self value.now self.file }
+    fn with_content_step(self, draft: Draft, value: &[u8]) -> Result<Managed, ElementFault>
+        ensures { result ≡ with_content_step draft self value.now self.file }
     {
         let Standing { directory, file } = self;
         let Some(file) = file else {
@@ -195,7 +187,7 @@ pub(crate) fn with_file_made(
     directory: Path,
     fcp: Option<Fcp>,
 ) -> Result<Managed, StepFault>
-    ensures { Gives result (with_file_made draft directory fcp) }
+    ensures { ComesTo result (with_file_made draft directory fcp) }
 {
     let Some(fcp) = fcp else {
         return Err(StepFault::Refused(ElementFault::BadParameter));

@@ -1,6 +1,6 @@
 //! Where the next part of a package stands, and what it does there.
 ghost use Rattle.std.specs.Prelude.{◌≡◌, ◌<◌, [], Ok, Err, if◌then◌else◌};
-ghost use Rattle.profile_install.specs.ElementResult.{Gives};
+ghost use Rattle.profile_install.specs.ElementResult.{ComesTo};
 ghost use Rattle.profile_install.specs.State.{at, depth_of, element_begins, file_opens, fresh_state, has_master, in_list, in_position, lists_open, opened_at, passing, placed, template_opens};
 ghost use Rattle.profile_install.specs.Template.{template_list};
 
@@ -120,7 +120,7 @@ impl State {
     }
 
     fn placed(self, good: bool, spot: Spot) -> Result<State, StepFault>
-        ensures { Gives result (placed self good self.draft spot) }
+        ensures { ComesTo result (placed self good self.draft spot) }
     {
         if good {
             Ok(self.at(spot))
@@ -130,14 +130,14 @@ impl State {
     }
 
     fn template_begins(self, good: bool, template: u8) -> Result<State, StepFault>
-        ensures { Gives result
+        ensures { ComesTo result
             (placed self good self.draft (Spot.Template (template_list template))) }
     {
         self.placed(good, Spot::Template(TemplateList::new(template)))
     }
 
     fn telecom_begins(self) -> Result<State, StepFault>
-        ensures { Gives result (element_begins self 0xB2) }
+        ensures { ComesTo result (element_begins self 0xB2) }
     {
         let mut state = self;
         let good = has_master(&state.draft) && !state.draft.telecom;
@@ -146,7 +146,7 @@ impl State {
     }
 
     fn usim_begins(self) -> Result<State, StepFault>
-        ensures { Gives result (element_begins self 0xB3) }
+        ensures { ComesTo result (element_begins self 0xB3) }
     {
         let mut state = self;
         let good = has_master(&state.draft) && !state.draft.usim;
@@ -155,7 +155,7 @@ impl State {
     }
 
     fn isim_begins(self) -> Result<State, StepFault>
-        ensures { Gives result (element_begins self 0xB5) }
+        ensures { ComesTo result (element_begins self 0xB5) }
     {
         let mut state = self;
         let good = has_master(&state.draft) && !state.draft.isim;
@@ -164,7 +164,7 @@ impl State {
     }
 
     fn management_begins(self) -> Result<State, StepFault>
-        ensures { Gives result (element_begins self 0xA1) }
+        ensures { ComesTo result (element_begins self 0xA1) }
     {
         let mut state = self;
         let good = has_master(&state.draft);
@@ -178,7 +178,7 @@ impl State {
     /// USIM or the ISIM comes again, or the USIM's optional files before the USIM. `Malformed`: no
     /// tag of an element, or a second header.
     pub fn element_begins(self, tag: u32) -> Result<State, StepFault>
-        ensures { Gives result (element_begins self tag) }
+        ensures { ComesTo result (element_begins self tag) }
     {
         let there = has_master(&self.draft);
         match tag {
@@ -201,17 +201,9 @@ impl State {
 
     fn in_position(self, list: TemplateList, position: u8) -> Result<State, StepFault>
         requires { position < 255 }
-        ensures { Gives result (in_position self list position) }
+        ensures { ComesTo result (in_position self list position) }
     {
-        let State {
-            draft,
-            spot: _,
-            standing,
-            gathered,
-            passed,
-            awaited,
-        } = self;
-        let draft = list.at_position(draft, position)?;
+        let draft = list.at_position(self.draft, position)?;
         let list = TemplateList {
             next: position + 1,
             ..list
@@ -219,15 +211,12 @@ impl State {
         Ok(State {
             draft,
             spot: Spot::File(list, FileParts::Awaited),
-            standing,
-            gathered,
-            passed,
-            awaited,
+            ..self
         })
     }
 
     fn template_opens(self, list: TemplateList, tag: u32) -> Result<State, StepFault>
-        ensures { Gives result (template_opens self list tag) }
+        ensures { ComesTo result (template_opens self list tag) }
     {
         match tag {
             0xA0 => Ok(self.passing()),
@@ -248,7 +237,7 @@ impl State {
     }
 
     fn file_opens(self, list: TemplateList, parts: FileParts, tag: u32) -> Result<State, StepFault>
-        ensures { Gives result (file_opens self list parts tag) }
+        ensures { ComesTo result (file_opens self list parts tag) }
     {
         match parts {
             FileParts::Awaited if tag == 0xA1 => Ok(self.gathers_at(Spot::Descriptor(list))),
@@ -267,7 +256,7 @@ impl State {
     }
 
     fn lists_open(self, kind: ListKind, seen: bool, tag: u32) -> Result<State, StepFault>
-        ensures { Gives result (lists_open self kind seen tag) }
+        ensures { ComesTo result (lists_open self kind seen tag) }
     {
         if tag == 0xA0 {
             Ok(self.passing())
@@ -279,13 +268,13 @@ impl State {
     }
 
     fn opens_at(self, good: bool, spot: Spot) -> Result<State, StepFault>
-        ensures { Gives result (if good then Ok (at self spot) else Err ElementFault.Malformed) }
+        ensures { ComesTo result (if good then Ok (at self spot) else Err ElementFault.Malformed) }
     {
         if good { Ok(self.at(spot)) } else { malformed() }
     }
 
     fn new_file_opens(self, tag: u32) -> Result<State, StepFault>
-        ensures { Gives result (opened_at self Spot.Steps tag) }
+        ensures { ComesTo result (opened_at self Spot.Steps tag) }
     {
         if tag == 0x62 {
             Ok(self.gathers_at(Spot::NewFile))
@@ -298,7 +287,7 @@ impl State {
     /// position, and an element, has the faults of `TemplateList::at_position` and
     /// `element_begins`.
     pub fn opened(self, tag: u32) -> Result<State, StepFault>
-        ensures { Gives result (opened_at self self.spot tag) }
+        ensures { ComesTo result (opened_at self self.spot tag) }
     {
         match self.spot {
             Spot::Start => self.opens_at(tag == 0xA0, Spot::Header(HeaderFields::new())),

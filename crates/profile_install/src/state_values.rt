@@ -1,9 +1,9 @@
 //! What the values and the ends of TLVs do where they stand.
 ghost use Rattle.std.specs.Prelude.{◌≡◌, [], Ok, Err, IfOk, if◌then◌else◌};
-ghost use Rattle.profile_install.specs.ElementResult.{Gives, then_with};
+ghost use Rattle.profile_install.specs.ElementResult.{ComesTo, then_with};
 ghost use Rattle.profile_install.specs.declared.fault.ElementFault.{ElementFault};
 ghost use Rattle.profile_install.specs.Management.{with_step};
-ghost use Rattle.profile_install.specs.State.{at, closed_at, file_closed, file_valued, managed, template_valued, valued_at, with_pin, with_puk};
+ghost use Rattle.profile_install.specs.State.{at, closed_at, file_closed, file_valued, with_managed, template_valued, valued_at, with_new_pin, with_new_puk};
 
 use crate::management::with_file_made;
 use crate::state::{ListKind, Spot, State, malformed};
@@ -20,7 +20,7 @@ impl State {
         parts: FileParts,
         value: &[u8],
     ) -> Result<State, StepFault>
-        ensures { Gives result (file_valued self list parts 0x80 value.now) }
+        ensures { ComesTo result (file_valued self list parts 0x80 value.now) }
     {
         let parts = list.left_out(parts, value)?;
         Ok(self.at(Spot::File(list, parts)))
@@ -33,32 +33,21 @@ impl State {
         tag: u32,
         value: &[u8],
     ) -> Result<State, StepFault>
-        ensures { Gives result (file_valued self list parts tag value.now) }
+        ensures { ComesTo result (file_valued self list parts tag value.now) }
     {
         if tag == 0x80 {
             return self.file_left_out(list, parts, value);
         }
-        let State {
-            draft,
-            spot: _,
-            standing,
-            gathered,
-            passed,
-            awaited,
-        } = self;
-        let done = list.with_part(draft, parts, tag, value)?;
+        let done = list.with_part(self.draft, parts, tag, value)?;
         Ok(State {
             draft: done.draft,
             spot: Spot::File(list, FileParts::Made(done.file)),
-            standing,
-            gathered,
-            passed,
-            awaited,
+            ..self
         })
     }
 
     fn template_valued(self, list: TemplateList, tag: u32, value: &[u8]) -> Result<State, StepFault>
-        ensures { Gives result (template_valued self list tag value.now) }
+        ensures { ComesTo result (template_valued self list tag value.now) }
     {
         if tag != 0x06 {
             return malformed();
@@ -68,25 +57,15 @@ impl State {
     }
 
     fn step_valued(self, tag: u32, value: &[u8]) -> Result<State, StepFault>
-        ensures { Gives result (then_with (λ done. Ok (managed self Spot.Steps done))
+        ensures { ComesTo result (then_with (λ done. Ok (with_managed self Spot.Steps done))
             (with_step self.draft self.standing tag value.now)) }
     {
-        let State {
-            draft,
-            spot: _,
-            standing,
-            gathered,
-            passed,
-            awaited,
-        } = self;
-        let done = standing.with_step(draft, tag, value)?;
+        let done = self.standing.with_step(self.draft, tag, value)?;
         Ok(State {
             draft: done.draft,
             spot: Spot::Steps,
             standing: done.standing,
-            gathered,
-            passed,
-            awaited,
+            ..self
         })
     }
 
@@ -97,21 +76,21 @@ impl State {
         tag: u32,
         value: &[u8],
     ) -> Result<State, StepFault>
-        ensures { Gives result (valued_at iccid.now self (Spot.Header fields) tag value.now) }
+        ensures { ComesTo result (valued_at iccid.now self (Spot.Header fields) tag value.now) }
     {
         let fields = fields.with_field(iccid, tag, value)?;
         Ok(self.at(Spot::Header(fields)))
     }
 
     fn puk_valued(self, fields: PukFields, tag: u32, value: &[u8]) -> Result<State, StepFault>
-        ensures { Gives result (valued_at [] self (Spot.PukEntry fields) tag value.now) }
+        ensures { ComesTo result (valued_at [] self (Spot.PukEntry fields) tag value.now) }
     {
         let fields = fields.with_field(self.draft.puks.as_slice(), tag, value)?;
         Ok(self.at(Spot::PukEntry(fields)))
     }
 
     fn pin_valued(self, fields: PinFields, tag: u32, value: &[u8]) -> Result<State, StepFault>
-        ensures { Gives result (valued_at [] self (Spot.PinEntry fields) tag value.now) }
+        ensures { ComesTo result (valued_at [] self (Spot.PinEntry fields) tag value.now) }
     {
         let fields = fields.with_field(&self.draft, tag, value)?;
         Ok(self.at(Spot::PinEntry(fields)))
@@ -120,7 +99,7 @@ impl State {
     /// A primitive TLV with its value. What stands there in no package is `Malformed`; fields,
     /// parts and steps have the faults of the calls that take them.
     pub fn valued(self, iccid: &[u8; 10], tag: u32, value: &[u8]) -> Result<State, StepFault>
-        ensures { Gives result (valued_at iccid.now self self.spot tag value.now) }
+        ensures { ComesTo result (valued_at iccid.now self self.spot tag value.now) }
     {
         match self.spot {
             Spot::Header(fields) => self.header_valued(iccid, fields, tag, value),
@@ -135,16 +114,16 @@ impl State {
         }
     }
 
-    fn with_puk(self, puk: NamedPuk) -> Result<State, NoMemory>
-        ensures { IfOk result (λ state. state ≡ with_puk self puk) }
+    fn with_new_puk(self, puk: NamedPuk) -> Result<State, NoMemory>
+        ensures { IfOk result (λ state. state ≡ with_new_puk self puk) }
     {
         let mut state = self;
         state.draft.puks.push(puk)?;
         Ok(state.at(Spot::Puks))
     }
 
-    fn with_pin(self, pin: PinRow) -> Result<State, NoMemory>
-        ensures { IfOk result (λ state. state ≡ with_pin self pin) }
+    fn with_new_pin(self, pin: PinRow) -> Result<State, NoMemory>
+        ensures { IfOk result (λ state. state ≡ with_new_pin self pin) }
     {
         let mut state = self;
         state.draft.pins.push(pin)?;
@@ -152,7 +131,7 @@ impl State {
     }
 
     fn header_closed(self, fields: HeaderFields) -> Result<State, StepFault>
-        ensures { Gives result (closed_at self (Spot.Header fields)) }
+        ensures { ComesTo result (closed_at self (Spot.Header fields)) }
     {
         if fields.is_whole() {
             Ok(self.at(Spot::Elements))
@@ -162,74 +141,41 @@ impl State {
     }
 
     fn template_closed(self, list: TemplateList) -> Result<State, StepFault>
-        ensures { Gives result (closed_at self (Spot.Template list)) }
+        ensures { ComesTo result (closed_at self (Spot.Template list)) }
     {
-        let State {
-            draft,
-            spot: _,
-            standing,
-            gathered,
-            passed,
-            awaited,
-        } = self;
-        let draft = list.at_end(draft)?;
+        let draft = list.at_end(self.draft)?;
         Ok(State {
             draft,
             spot: Spot::Elements,
-            standing,
-            gathered,
-            passed,
-            awaited,
+            ..self
         })
     }
 
     fn file_closed(self, list: TemplateList, parts: FileParts) -> Result<State, StepFault>
-        ensures { Gives result (file_closed self list parts) }
+        ensures { ComesTo result (file_closed self list parts) }
     {
-        let State {
-            draft,
-            spot: _,
-            standing,
-            gathered,
-            passed,
-            awaited,
-        } = self;
-        let draft = list.at_file_end(draft, parts)?;
+        let draft = list.at_file_end(self.draft, parts)?;
         Ok(State {
             draft,
             spot: Spot::Template(list),
-            standing,
-            gathered,
-            passed,
-            awaited,
+            ..self
         })
     }
 
     fn descriptor_closed(self, list: TemplateList) -> Result<State, StepFault>
-        ensures { Gives result (closed_at self (Spot.Descriptor list)) }
+        ensures { ComesTo result (closed_at self (Spot.Descriptor list)) }
     {
         let given = read_fields(self.gathered.as_slice());
-        let State {
-            draft,
-            spot: _,
-            standing,
-            gathered,
-            passed,
-            awaited,
-        } = self;
-        let done = list.with_descriptor(draft, given)?;
+        let done = list.with_descriptor(self.draft, given)?;
         Ok(State {
             draft: done.draft,
             spot: Spot::File(list, FileParts::Made(done.file)),
-            standing,
-            gathered,
-            passed,
-            awaited,
+            ..self
         })
     }
 
     fn list_closed(self, seen: bool) -> Result<State, StepFault>
-        ensures { Gives result (if seen then Ok (at self Spot.Elements)
+        ensures { ComesTo result (if seen then Ok (at self Spot.Elements)
             else Err ElementFault.Malformed) }
     {
         if seen {
@@ -240,47 +186,37 @@ impl State {
     }
 
     fn new_file_closed(self) -> Result<State, StepFault>
-        ensures { Gives result (closed_at self Spot.NewFile) }
+        ensures { ComesTo result (closed_at self Spot.NewFile) }
     {
         let fcp = read_fields(self.gathered.as_slice());
-        let State {
-            draft,
-            spot: _,
-            standing,
-            gathered,
-            passed,
-            awaited,
-        } = self;
-        let done = with_file_made(draft, standing.directory, fcp)?;
+        let done = with_file_made(self.draft, self.standing.directory, fcp)?;
         Ok(State {
             draft: done.draft,
             spot: Spot::Steps,
             standing: done.standing,
-            gathered,
-            passed,
-            awaited,
+            ..self
         })
     }
 
     fn puk_closed(self, fields: PukFields) -> Result<State, StepFault>
-        ensures { Gives result (closed_at self (Spot.PukEntry fields)) }
+        ensures { ComesTo result (closed_at self (Spot.PukEntry fields)) }
     {
         let puk = fields.into_puk()?;
-        Ok(self.with_puk(puk)?)
+        Ok(self.with_new_puk(puk)?)
     }
 
     fn pin_closed(self, fields: PinFields) -> Result<State, StepFault>
-        ensures { Gives result (closed_at self (Spot.PinEntry fields)) }
+        ensures { ComesTo result (closed_at self (Spot.PinEntry fields)) }
     {
         let pin = fields.into_pin(&self.draft)?;
-        Ok(self.with_pin(pin)?)
+        Ok(self.with_new_pin(pin)?)
     }
 
     /// The innermost TLV ends. What it lacks is `Malformed`; a file that is made now has the faults
     /// of `TemplateList`, one of a step those of CREATE FILE, and a PIN that of
     /// `PinFields::into_pin`.
     pub fn closed(self) -> Result<State, StepFault>
-        ensures { Gives result (closed_at self self.spot) }
+        ensures { ComesTo result (closed_at self self.spot) }
     {
         match self.spot {
             Spot::Start | Spot::Elements | Spot::Ended => Ok(self),

@@ -1,7 +1,7 @@
 //! The elements that make the files of a template.
 ghost use Rattle.std.specs.Prelude.{◌≡◌, ◌-◌, [], Ok};
 ghost use Rattle.file_templates.specs.Templates.{row_at};
-ghost use Rattle.profile_install.specs.ElementResult.{Gives};
+ghost use Rattle.profile_install.specs.ElementResult.{ComesTo};
 ghost use Rattle.profile_install.specs.Template.{at_file_end, at_list_end, at_position, directory_at, directory_of, is_master_at, just_made, left_out, made_before, no_fields, present, row_given, skipped_in, template_list, with_descriptor, with_not_given, with_part, with_present, with_row, with_row_at, with_rows, with_template};
 
 use crate::draft::skip_count;
@@ -76,7 +76,7 @@ fn no_fields() -> Fcp
 }
 
 fn with_row(draft: Draft, template: u8, row: &Row, given: Fcp) -> Result<Draft, StepFault>
-    ensures { Gives result (with_row draft template row.now given) }
+    ensures { ComesTo result (with_row draft template row.now given) }
 {
     let directory = directory_at(template, row.position);
     let is_master = is_master_at(template, row.position);
@@ -86,7 +86,7 @@ fn with_row(draft: Draft, template: u8, row: &Row, given: Fcp) -> Result<Draft, 
 
 // The file at a position is made, where the template has one there.
 fn with_row_at(draft: Draft, template: u8, row: Option<Row>, given: Fcp) -> Result<Draft, StepFault>
-    ensures { Gives result (with_row_at draft template row given) }
+    ensures { ComesTo result (with_row_at draft template row given) }
 {
     match row {
         Some(row) => with_row(draft, template, &row, given),
@@ -96,7 +96,7 @@ fn with_row_at(draft: Draft, template: u8, row: Option<Row>, given: Fcp) -> Resu
 
 // The file at a position is made as its row says.
 fn with_row_as_is(draft: Draft, template: u8, position: u8) -> Result<Draft, StepFault>
-    ensures { Gives result
+    ensures { ComesTo result
         (with_row_at draft template (row_at template position) no_fields) }
 {
     with_row_at(draft, template, row(template, position), no_fields())
@@ -104,7 +104,7 @@ fn with_row_as_is(draft: Draft, template: u8, position: u8) -> Result<Draft, Ste
 
 // The files from one position up to another are made as their rows say.
 fn with_rows(draft: Draft, template: u8, from: u8, upto: u8) -> Result<Draft, StepFault>
-    ensures { Gives result (with_rows template from (upto - from) draft) }
+    ensures { ComesTo result (with_rows template from (upto - from) draft) }
 {
     let mut draft = draft;
     for position in from..upto {
@@ -117,7 +117,7 @@ fn with_rows(draft: Draft, template: u8, from: u8, upto: u8) -> Result<Draft, St
 }
 
 fn with_not_given(draft: Draft, template: u8, from: u8, upto: u8) -> Result<Draft, StepFault>
-    ensures { Gives result (with_not_given template from upto draft) }
+    ensures { ComesTo result (with_not_given template from upto draft) }
 {
     if template == 5 {
         return Ok(draft);
@@ -185,7 +185,7 @@ impl TemplateList {
     /// `Malformed`: no template came, or the positions don't ascend. `BadParameter`: the template
     /// doesn't have the position, or a file before it can't be. `NoRoom`: one exceeds the quota.
     pub fn at_position(self, draft: Draft, position: u8) -> Result<Draft, StepFault>
-        ensures { Gives result (at_position draft self position) }
+        ensures { ComesTo result (at_position draft self position) }
     {
         let _row = self.row_given(position, row(self.template, position))?;
         with_not_given(draft, self.template, self.next, position)
@@ -196,7 +196,7 @@ impl TemplateList {
     /// `Malformed`: no template came. `BadParameter`: one of them can't be. `NoRoom`: one exceeds
     /// the quota.
     pub fn at_end(self, draft: Draft) -> Result<Draft, StepFault>
-        ensures { Gives result (at_list_end draft self) }
+        ensures { ComesTo result (at_list_end draft self) }
     {
         if !self.begun {
             return Err(StepFault::Refused(ElementFault::Malformed));
@@ -205,7 +205,7 @@ impl TemplateList {
     }
 
     fn with_present(self, draft: Draft, given: Fcp) -> Result<Draft, StepFault>
-        ensures { Gives result (with_present draft self given) }
+        ensures { ComesTo result (with_present draft self given) }
     {
         with_row_at(
             draft,
@@ -240,7 +240,7 @@ impl TemplateList {
 
     // The file, made before its first part but a descriptor.
     fn made_before(self, draft: Draft, parts: FileParts) -> Result<Filled, StepFault>
-        ensures { Gives result (made_before draft self parts) }
+        ensures { ComesTo result (made_before draft self parts) }
     {
         match parts {
             FileParts::Made(file) => Ok(Filled { draft, file }),
@@ -265,7 +265,7 @@ impl TemplateList {
         tag: u32,
         value: &[u8],
     ) -> Result<Filled, StepFault>
-        ensures { Gives result (with_part draft self parts tag value.now) }
+        ensures { ComesTo result (with_part draft self parts tag value.now) }
     {
         if tag == 0x82 {
             let done = self.made_before(draft, parts)?;
@@ -281,7 +281,7 @@ impl TemplateList {
     /// The file at the present position at the end of its parts: one of which no part came is made
     /// as its row says.
     pub fn at_file_end(self, draft: Draft, parts: FileParts) -> Result<Draft, StepFault>
-        ensures { Gives result (at_file_end draft self parts) }
+        ensures { ComesTo result (at_file_end draft self parts) }
     {
         match parts {
             FileParts::Awaited => self.with_present(draft, no_fields()),
@@ -294,7 +294,7 @@ impl TemplateList {
     /// `Malformed`: the descriptor has a field that is malformed or stands there again.
     /// `BadParameter`: the file can't be. `NoRoom`: it exceeds the quota.
     pub fn with_descriptor(self, draft: Draft, given: Option<Fcp>) -> Result<Filled, StepFault>
-        ensures { Gives result (with_descriptor draft self given) }
+        ensures { ComesTo result (with_descriptor draft self given) }
     {
         match given {
             None => Err(StepFault::Refused(ElementFault::Malformed)),

@@ -3,12 +3,14 @@ mod refused_elements;
 mod refused_files;
 mod refused_pins;
 mod refused_steps;
+mod refused_templates;
 mod samples;
 mod taken;
+mod templates;
 
 use super::*;
 use fcp_codec::{InUse, read_fcp};
-use file_rows::{Content, FileHead, Kind, Life, Name, Path, PinRow, Rule};
+use file_rows::{Content, FileHead, FileRow, Kind, Life, Name, Path, PinRow, Rule};
 use file_templates::row;
 use std::alloc::Global;
 

@@ -3,8 +3,8 @@ ghost use Rattle.std.specs.Prelude.{◌≡◌, ◌+◌, ◌++◌, Err, IfOk, Res
 ghost use Rattle.profile_install.specs.declared.fault.ElementFault.{ElementFault};
 ghost use Rattle.profile_install.specs.declared.state.State.{State};
 ghost use Rattle.package_reader.specs.ReaderState.{opens};
-ghost use Rattle.profile_install.specs.ElementResult.{Gives};
-ghost use Rattle.profile_install.specs.Package.{after_part, broken, closed, content_at_end, content_of, fresh_work, gathering, going, headed, heading, IsOutcome, is_element_due, is_gathering, is_head, opening, outcome, place_after, progress_after, refused_at, settled, valued, with_fault};
+ghost use Rattle.profile_install.specs.ElementResult.{ComesTo};
+ghost use Rattle.profile_install.specs.Package.{after_part, broken, closed, content_at_end, content_of_draft, fresh_work, gathering, going, headed, heading, IsOutcome, is_element_due, is_gathering, is_head, constructed_begins, package_outcome, place_after, progress_after, refused_at, step_settled, valued, element_with_fault};
 
 use crate::state::{Awaited, Spot, State};
 use crate::{Draft, ElementFault, StepFault};
@@ -58,8 +58,8 @@ fn next(count: u32) -> Result<u32, NoMemory>
     count.checked_add(1).ok_or(NoMemory)
 }
 
-fn with_fault(fault: ElementFault, depth: u32) -> Progress
-    ensures { result ≡ with_fault fault depth }
+fn element_with_fault(fault: ElementFault, depth: u32) -> Progress
+    ensures { result ≡ element_with_fault fault depth }
 {
     if depth == 0 {
         Progress::Refused(fault)
@@ -70,12 +70,12 @@ fn with_fault(fault: ElementFault, depth: u32) -> Progress
 
 // What comes of a step.
 fn settle(step: Result<State, StepFault>, depth: u32) -> Result<Progress, NoMemory>
-    ensures { IfOk result (λ progress. (meant : Result State ElementFault) → Gives step meant
-        → progress ≡ settled meant depth) }
+    ensures { IfOk result (λ progress. (meant : Result State ElementFault) → ComesTo step meant
+        → progress ≡ step_settled meant depth) }
 {
     match step {
         Ok(state) => Ok(Progress::Going(state)),
-        Err(StepFault::Refused(fault)) => Ok(with_fault(fault, depth)),
+        Err(StepFault::Refused(fault)) => Ok(element_with_fault(fault, depth)),
         Err(StepFault::OutOfMemory) => Err(NoMemory),
     }
 }
@@ -112,27 +112,12 @@ impl State {
         if !is_gathering(self.spot) {
             return Ok(self);
         }
-        let State {
-            draft,
-            spot,
-            standing,
-            gathered,
-            passed,
-            awaited,
-        } = self;
-        let gathered = extended(gathered, bytes)?;
-        Ok(State {
-            draft,
-            spot,
-            standing,
-            gathered,
-            passed,
-            awaited,
-        })
+        let gathered = extended(self.gathered, bytes)?;
+        Ok(State { gathered, ..self })
     }
 
-    fn opening(self, tag: u32) -> Result<Progress, NoMemory>
-        ensures { IfOk result (λ progress. progress ≡ opening self tag) }
+    fn constructed_begins(self, tag: u32) -> Result<Progress, NoMemory>
+        ensures { IfOk result (λ progress. progress ≡ constructed_begins self tag) }
     {
         if self.passed >= 1 {
             let passed = next(self.passed)?;
@@ -167,7 +152,7 @@ impl State {
             progress ≡ headed iccid.now self tag length (opens head.now)) }
     {
         if is_constructed(head) {
-            self.opening(tag)
+            self.constructed_begins(tag)
         } else {
             self.heading(iccid, tag, length)
         }
@@ -233,7 +218,7 @@ impl Faulty {
                 let depth = next(self.depth)?;
                 Ok(Progress::Broken(Faulty { depth, ..self }))
             }
-            Part::Close => Ok(with_fault(self.fault, self.depth.saturating_sub(1))),
+            Part::Close => Ok(element_with_fault(self.fault, self.depth.saturating_sub(1))),
             _ => Ok(Progress::Broken(self)),
         }
     }
@@ -276,11 +261,11 @@ fn refused_at(place: u32, fault: ElementFault) -> Refusal
     }
 }
 
-fn content_of(draft: Draft) -> Content
-    ensures { result ≡ content_of draft }
+fn content_of_draft(draft: Draft) -> Content
+    ensures { result ≡ content_of_draft draft }
 {
     Content {
-        rows: draft.rows,
+        rows: draft.rows.into_rows(),
         pins: draft.pins,
     }
 }
@@ -316,13 +301,13 @@ impl State {
         ensures { IsOutcome result (content_at_end place self self.spot used_up) }
     {
         match self.spot {
-            Spot::Ended if used_up => Ok(content_of(self.draft)),
+            Spot::Ended if used_up => Ok(content_of_draft(self.draft)),
             _ => Err(refused_next(place)),
         }
     }
 
     fn into_outcome(self, place: u32, used_up: bool) -> Result<Content, BuildFault>
-        ensures { IsOutcome result (outcome place (Progress.Going self) used_up) }
+        ensures { IsOutcome result (package_outcome place (Progress.Going self) used_up) }
     {
         if self.spot.depth() == 0 && self.passed == 0 {
             self.into_content(place, used_up)
@@ -365,7 +350,7 @@ impl Work {
     /// What the package comes to where no whole part of it is left, and whether all its bytes are
     /// used up.
     pub fn into_outcome(self, used_up: bool) -> Result<Content, BuildFault>
-        ensures { IsOutcome result (outcome self.place self.progress used_up) }
+        ensures { IsOutcome result (package_outcome self.place self.progress used_up) }
     {
         let Work { place, progress } = self;
         match progress {

@@ -23,7 +23,7 @@ pub fn built(
     cut: usize,
 ) -> Result<Content, BuildFault> {
     let mut builder = Builder::new(alloc, iccid);
-    if bytes.len() < 65_536 {
+    if bytes.len() < 0x0100_0000 {
         let (first, second) = bytes.split_at(cut.min(bytes.len()));
         if builder.feed(first).is_err() || builder.feed(second).is_err() {
             return Err(BuildFault::OutOfMemory);
@@ -32,15 +32,22 @@ pub fn built(
     builder.end()
 }
 
+/// Three parts of a package as one.
+pub fn joined(alloc: Global, one: &[u8], two: &[u8], three: &[u8]) -> Result<Vec<u8>, NoMemory> {
+    let mut bytes = Vec::new(alloc);
+    bytes.extend_from_slice(one)?;
+    bytes.extend_from_slice(two)?;
+    bytes.extend_from_slice(three)?;
+    Ok(bytes)
+}
+
 /// What a package of two parts gives, cut behind its first byte.
 pub fn built_behind(
     alloc: Global,
     front: &[u8],
     rest: &[u8],
 ) -> Result<Result<Content, BuildFault>, NoMemory> {
-    let mut bytes = Vec::new(alloc);
-    bytes.extend_from_slice(front)?;
-    bytes.extend_from_slice(rest)?;
+    let bytes = joined(alloc, front, rest, b"")?;
     Ok(built(alloc, ICCID, bytes.as_slice(), 1))
 }
 

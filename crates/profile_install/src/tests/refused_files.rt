@@ -6,7 +6,7 @@ use std::test::Fail;
 
 #[test]
 fn the_mf_and_its_files_are_refused(rt: HostRuntime) -> Result<(), Fail> {
-    let cases: [Refused; 19] = [
+    let cases: [Refused; 27] = [
         (
             "another template",
             b"\xB0\x08\x06\x06\x67\x81\x0F\x01\x02\x03\xAA\x00",
@@ -120,6 +120,57 @@ fn the_mf_and_its_files_are_refused(rt: HostRuntime) -> Result<(), Fail> {
                 \xAA\x00",
             2,
             6,
+        ),
+        (
+            "a descriptor twice",
+            b"\xB0\x0E\x06\x06\x67\x81\x0F\x01\x02\x01\xA3\x04\xA1\x00\xA1\x00\xAA\x00",
+            2,
+            5,
+        ),
+        (
+            "an SFI in use",
+            b"\xB0\x0F\x06\x06\x67\x81\x0F\x01\x02\x01\xA3\x05\xA1\x03\x88\x01\x10\xAA\x00",
+            2,
+            6,
+        ),
+        (
+            "a file past the quota",
+            b"\xB0\x11\x06\x06\x67\x81\x0F\x01\x02\x01\xA3\x07\xA1\x05\x80\x03\x00\xFF\xE0\xAA\x00",
+            2,
+            4,
+        ),
+        (
+            "a size of 65,505 bytes",
+            b"\xB0\x11\x06\x06\x67\x81\x0F\x01\x02\x01\xA3\x07\xA1\x05\x80\x03\x00\xFF\xE1\xAA\x00",
+            2,
+            6,
+        ),
+        (
+            "records that are no whole number",
+            b"\xB0\x12\x06\x06\x67\x81\x0F\x01\x02\x01\xA5\x08\xA1\x06\x82\x04\x42\x21\x00\x25\
+                \xAA\x00",
+            2,
+            6,
+        ),
+        (
+            "a name at a file",
+            b"\xB0\x1E\x06\x06\x67\x81\x0F\x01\x02\x01\xA3\x14\xA1\x12\x84\x10\xA0\x00\x00\x00\
+                \x87\x10\x02\xFF\xFF\xFF\xFF\x89\x00\x00\x01\x00\xAA\x00",
+            2,
+            6,
+        ),
+        (
+            "content and then a part that isn't there",
+            b"\xB0\x11\x06\x06\x67\x81\x0F\x01\x02\x01\xA3\x07\x83\x03\x00\x00\x00\x84\x00\xAA\x00",
+            2,
+            6,
+        ),
+        (
+            "a size twice behind content of another file",
+            b"\xB0\x17\x06\x06\x67\x81\x0F\x01\x02\x01\xA3\x03\x83\x01\x00\xA4\x08\xA1\x06\x80\
+                \x01\x0A\x80\x01\x0A\xAA\x00",
+            2,
+            5,
         ),
     ];
     for case in cases {

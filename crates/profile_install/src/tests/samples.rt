@@ -4,7 +4,7 @@ use super::packages::*;
 use super::*;
 use std::test::Fail;
 
-const OTHER_ICCID: [u8; 10] = *b"\x98\x94\x00\x00\x00\x00\x00\x00\x00\xF2";
+pub const OTHER_ICCID: [u8; 10] = *b"\x98\x94\x00\x00\x00\x00\x00\x00\x00\xF2";
 
 // The access rules: three records of 42 bytes, of which these are the first bytes.
 const RULES: [&[u8]; 3] = [
@@ -14,7 +14,7 @@ const RULES: [&[u8]; 3] = [
 ];
 
 // A profile with the MF's files and two PINs.
-const SAMPLE: &[u8] =
+pub const SAMPLE: &[u8] =
     b"\xA0\x12\x80\x01\x03\x81\x01\x03\x83\x0A\x98\x94\x00\x00\x00\x00\x00\x00\x00\
     \xF1\xB0\x49\xA0\x03\x81\x01\x01\x06\x06\x67\x81\x0F\x01\x02\x01\xA4\x0C\x83\
     \x0A\x98\x94\x00\x00\x00\x00\x00\x00\x00\xF1\xA6\x2C\x83\x10\x80\x01\x01\x90\
@@ -25,7 +25,7 @@ const SAMPLE: &[u8] =
     \x38\xAA\x05\xA0\x03\x81\x01\x03";
 
 // The profile with the other ICCID, and a USIM.
-const SECOND_SAMPLE: &[u8] =
+pub const SECOND_SAMPLE: &[u8] =
     b"\xA0\x12\x80\x01\x03\x81\x01\x03\x83\x0A\x98\x94\x00\x00\x00\x00\x00\x00\x00\
     \xF2\xB0\x49\xA0\x03\x81\x01\x01\x06\x06\x67\x81\x0F\x01\x02\x01\xA4\x0C\x83\
     \x0A\x98\x94\x00\x00\x00\x00\x00\x00\x00\xF2\xA6\x2C\x83\x10\x80\x01\x01\x90\
@@ -52,7 +52,7 @@ const WITH_NO_EFFECT: &[u8] =
     \x38\xA6\x03\x80\x01\x01\xAA\x05\xA0\x03\x81\x01\x03";
 
 // The body of the file of access rules: ten records.
-fn rules(alloc: Global) -> Result<Vec<u8>, NoMemory> {
+pub fn rules(alloc: Global) -> Result<Vec<u8>, NoMemory> {
     let mut body = vec![in alloc; 0xFF; 420]?;
     for (record, rule) in RULES.iter().enumerate() {
         for (place, byte) in rule.iter().enumerate() {
@@ -77,7 +77,7 @@ fn pin(number: u8, key: u8, value: [u8; 8]) -> PinRow {
     }
 }
 
-fn has_pins(content: &Content) -> bool {
+pub fn has_pins(content: &Content) -> bool {
     let first = pin(1, 0x01, *b"1234\xFF\xFF\xFF\xFF");
     let second = pin(2, 0x0A, *b"88888888");
     match content.pins.as_slice() {
@@ -87,7 +87,7 @@ fn has_pins(content: &Content) -> bool {
 }
 
 // Whether the first files are those of the MF, with these bodies.
-fn has_master<'x>(content: &Content, iccid: &'x [u8; 10], rules: &'x [u8]) -> bool {
+pub fn has_master<'x>(content: &Content, iccid: &'x [u8; 10], rules: &'x [u8]) -> bool {
     let files: [(Path, &[u8]); 6] = [
         (Path::new(), &[]),
         (at(0x2F05), &[0xFF; 2]),
@@ -160,6 +160,8 @@ fn the_first_sample_without_its_last_byte_is_refused(rt: HostRuntime) {
     assert!(rt; is_refused(&answer, 4, 5));
     one_answer_of_a_package();
     packages_give_valid_contents();
+    refusals_name_the_first_faulty_element();
+    packages_are_for_one_iccid();
 }
 
 #[test]
