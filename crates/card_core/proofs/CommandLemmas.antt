@@ -1,5 +1,5 @@
 -- Commands name one of four channels and ask for at most 256 bytes.
-use Rattle.std.proofs.Common.{◌≡◌, ◌<◌, ◌≤◌, ℕ, List, Option, Some, None, unwrap_or, arith}
+use Rattle.std.proofs.Common.{◌<◌, ◌≤◌, ℕ, List, Option, Some, None, unwrap_or, arith}
 use Rattle.apdu_codec.proofs.CommandLemmas.{le-of_tail}
 use Rattle.apdu_codec.specs.Class.{HasClass}
 use Rattle.apdu_codec.specs.Command.{IsCommand, SpellsTail}

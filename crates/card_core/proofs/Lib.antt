@@ -1,4 +1,15 @@
+pub mod CardLemmas
+pub mod CardStepLemmas
+pub mod CarriedLemmas
 pub mod CommandLemmas
+pub mod CountLemmas
+pub mod EachLemmas
+pub mod KeptLemmas
+pub mod MetadataLemmas
+pub mod MovedLemmas
+pub mod NicknameLemmas
 pub mod OutcomeLemmas
 pub mod PortLemmas
 pub mod RequestLemmas
+pub mod StayLemmas
+pub mod WholeLemmas

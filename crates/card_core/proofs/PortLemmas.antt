@@ -21,11 +21,11 @@ use Rattle.record_codec.specs.IsDurable.{IsDurable}
 use Rattle.record_codec.specs.declared.durable.Durable.{Durable}
 use Rattle.record_codec.specs.declared.profile.ProfileHead.{ProfileHead}
 use Rattle.record_codec.specs.declared.record.Record.TheVariants as records
-use Rattle.card_core.specs.Port.{blank, changed_on, content_held, content_on, profile_on}
+use Rattle.card_core.specs.Port.{blank_content, changed_on, content_held, content_on, profile_on}
 use Rattle.card_core.specs.Port.{with_change_of}
 
 -- no change fits a blank card
-nothing_fits : (change : Change) → Fits blank change → ⊥
+nothing_fits : (change : Change) → Fits blank_content change → ⊥
 nothing_fits (changes.WriteRange path offset bytes) fits = fits.place
 nothing_fits (changes.WriteRecord path number bytes) fits = fits.place
 nothing_fits (changes.PinSet set) fits = any_none (λ pin. KeepsPin pin set) fits.place
@@ -39,18 +39,18 @@ pub found_held : (durable : Durable) (port profile : ℕ) (content : Content)
     → profile_on durable port ≡ Some profile → held_content profile durable ≡ Some content
     → content_on durable port ≡ content
 found_held durable port profile content on is =
-    ap (content_held durable) on ∙ ap (λ (held : Option Content). unwrap_or held blank) is
+    ap (content_held durable) on ∙ ap (λ (held : Option Content). unwrap_or held blank_content) is
 
 -- a profile that isn't held has a blank card's content
 none_held : (durable : Durable) (port profile : ℕ) → profile_on durable port ≡ Some profile
-    → (IsHeld profile durable.heads.profiles → ⊥) → content_on durable port ≡ blank
+    → (IsHeld profile durable.heads.profiles → ⊥) → content_on durable port ≡ blank_content
 none_held durable port profile on none =
-    ap (content_held durable) on ∙ ap (λ (held : Option Content). unwrap_or held blank)
+    ap (content_held durable) on ∙ ap (λ (held : Option Content). unwrap_or held blank_content)
     (content_none profile durable.heads.profiles durable.contents none)
 
 -- a port without a profile has a blank card's content
 pub none_on : (durable : Durable) (port : ℕ) → profile_on durable port ≡ None
-    → content_on durable port ≡ blank
+    → content_on durable port ≡ blank_content
 none_on durable port on = ap (content_held durable) on
 
 -- a content that is held is valid
@@ -64,7 +64,7 @@ pub ruleset port_contents = (found_held, none_on, valid_held)
 pub none_found : {X : Type 0} (durable : Durable) (port profile : ℕ) (found : Option X)
     → profile_on durable port ≡ Some profile
     → IfNone found (IsHeld profile durable.heads.profiles → ⊥)
-    → IfNone found (content_on durable port ≡ blank)
+    → IfNone found (content_on durable port ≡ blank_content)
 none_found durable port profile None on none = none_held durable port profile on none
 none_found durable port profile (Some x) on none = tt
 
@@ -80,7 +80,7 @@ may_change : (durable : Durable) (profile : ℕ) (change : Change)
     → Fits (content_held durable (Some profile)) change → MayChange durable profile change
 may_change durable profile change = by (held_content profile durable)
   where
-    by : (held : Option Content) → Fits (unwrap_or held blank) change
+    by : (held : Option Content) → Fits (unwrap_or held blank_content) change
         → IsSomeAnd held (λ content. Fits content change)
     by None fits = absurd (nothing_fits change fits)
     by (Some content) fits = fits
@@ -128,11 +128,11 @@ changed_held durable profile change fits =
     (changed_at profile (λ content. changed content change) durable.heads.profiles
     durable.contents)
   where
-    by : (held after : Option Content) → Fits (unwrap_or held blank) change
+    by : (held after : Option Content) → Fits (unwrap_or held blank_content) change
         → after ≡ option_map (λ content. changed content change) held
-        → unwrap_or after blank ≡ changed (unwrap_or held blank) change
+        → unwrap_or after blank_content ≡ changed (unwrap_or held blank_content) change
     by None after fits is = absurd (nothing_fits change fits)
-    by (Some content) after fits is = ap (λ (its : Option Content). unwrap_or its blank) is
+    by (Some content) after fits is = ap (λ (its : Option Content). unwrap_or its blank_content) is
 
 -- it is the content at the port of the profile
 changed_here : (durable after : Durable) (port profile : ℕ) (change : Change)
@@ -176,7 +176,7 @@ changed_elsewhere durable after port profile other change are on is apart =
         ≡ content_held durable its
     by None there = refl
     by (Some number) there =
-        ap (λ (held : Option Content). unwrap_or held blank)
+        ap (λ (held : Option Content). unwrap_or held blank_content)
         (others_held durable (apply durable (records.Content profile change)) port profile number
         change are on
         (λ same. apart (are.heads.ports.rule.one_port number other port

@@ -22,13 +22,13 @@ exchange_after exchange (Sends count) =
     record exchange { unsent = drop count exchange.unsent }
 
 -- no more bytes of the reply are sent than are left
-abbrev pub MayChange : Exchange → ExchangeChange → Type 0
-MayChange exchange (Sends count) = count ≤ length exchange.unsent
-MayChange exchange _ = ⊤
+abbrev pub SendsWhatIsLeft : Exchange → ExchangeChange → Type 0
+SendsWhatIsLeft exchange (Sends count) = count ≤ length exchange.unsent
+SendsWhatIsLeft exchange _ = ⊤
 
 -- what a decision comes to where this is under way
-abbrev pub outcome_of : Exchange → DeskDecision → DeskOutcome
-outcome_of exchange decision = record {
+abbrev pub decided_outcome : Exchange → DeskDecision → DeskOutcome
+decided_outcome exchange decision = record {
   answer = decision.answer;
   exchange = exchange_after exchange decision.exchange;
   entry = decision.entry;

@@ -8,10 +8,10 @@ use Rattle.apdu_codec.specs.declared.status.TheConstants.Sw.{WRONG_INSTRUCTION}
 use Rattle.isdr_commands.specs.declared.moves.Move.{Move}
 use Rattle.record_codec.specs.declared.durable.Heads.{Heads}
 use Rattle.uicc_channels.specs.Accepted.{is_accepted}
-use Rattle.card_core.specs.DeskOutcome.{DeskOutcome, refused}
+use Rattle.card_core.specs.DeskOutcome.{DeskOutcome, desk_refusal}
 use Rattle.card_core.specs.Exchange.{idle, uncollected}
 use Rattle.card_core.specs.GetResponse.{get_response}
-use Rattle.card_core.specs.StoreData.{block_refusal, form_refusal, store_data}
+use Rattle.card_core.specs.StoreData.{block_refusal, store_form_refusal, store_data}
 use Rattle.card_core.specs.declared.desk.Desk.{Desk}
 use Rattle.card_core.specs.declared.exchange.Exchange.{Exchange}
 
@@ -35,12 +35,12 @@ desk_outcome desk heads busy port c =
     let exchange = exchange_at desk c.channel in
     if c.ins == 0xE2 then store_data exchange heads busy port c
     else (if c.ins == 0xC0 then get_response exchange c
-    else refused exchange WRONG_INSTRUCTION)
+    else desk_refusal exchange WRONG_INSTRUCTION)
 
 -- the only commands for which memory may be wanting: a STORE DATA whose block is taken
 pub record TakesBlock (desk : Desk) (c : Apdu) : Type 0 where
   pub instruction : c.ins ≡ 0xE2
-  pub form : form_refusal c ≡ None
+  pub form : store_form_refusal c ≡ None
   pub block : block_refusal (exchange_at desk c.channel).collection c ≡ None
 
 -- with a fresh session nothing is under way; of a kept channel the unsent reply stays
@@ -68,8 +68,8 @@ failed_desk desk c =
 
 -- the channel that a command of the card itself takes from the ISD-R: its own by an accepted
 -- SELECT, another by an accepted MANAGE CHANNEL that closes it
-abbrev pub channel_left : Apdu → Sw → Option ℕ
-channel_left c sw =
+abbrev pub left_channel : Apdu → Sw → Option ℕ
+left_channel c sw =
     if is_accepted sw
     then (if c.ins == 0xA4 then Some c.channel
     else (if (c.ins == 0x70) && (c.p1 == 0x80) then Some c.p2 else None))

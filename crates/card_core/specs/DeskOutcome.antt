@@ -1,5 +1,5 @@
 -- What a command comes to on a channel where the ISD-R is selected.
-use Rattle.std.specs.Prelude.{ℕ, ◌+◌, List, [], take, drop, Option, Some, None}
+use Rattle.std.specs.Prelude.{ℕ, List, [], take, drop, Option, Some, None}
 use Rattle.apdu_codec.specs.Answer.{status_alone}
 use Rattle.apdu_codec.specs.declared.answers.Answer.{Answer}
 use Rattle.apdu_codec.specs.declared.status.Sw.{Sw}
@@ -18,21 +18,21 @@ pub record DeskOutcome : Type 0 where
   pub moves : List Move
 
 -- an answer, and this under way
-abbrev pub answering : Answer → Exchange → DeskOutcome
-answering answer exchange =
+abbrev pub desk_answer : Answer → Exchange → DeskOutcome
+desk_answer answer exchange =
     record { answer = answer; exchange = exchange; entry = None; moves = [] }
 
 -- refused, and nothing changes
-abbrev pub refused : Exchange → Sw → DeskOutcome
-refused exchange sw = answering (status_alone sw) exchange
+abbrev pub desk_refusal : Exchange → Sw → DeskOutcome
+desk_refusal exchange sw = desk_answer (status_alone sw) exchange
 
 -- refused, and the blocks that have come are dropped
 abbrev pub dropped : Exchange → Sw → DeskOutcome
-dropped exchange sw = answering (status_alone sw) (uncollected exchange)
+dropped exchange sw = desk_answer (status_alone sw) (uncollected exchange)
 
-abbrev pub refused_or : Option Sw → Exchange → DeskOutcome → DeskOutcome
-refused_or None exchange done = done
-refused_or (Some sw) exchange done = refused exchange sw
+abbrev pub desk_refused_or : Option Sw → Exchange → DeskOutcome → DeskOutcome
+desk_refused_or None exchange done = done
+desk_refused_or (Some sw) exchange done = desk_refusal exchange sw
 
 abbrev pub dropped_or : Option Sw → Exchange → DeskOutcome → DeskOutcome
 dropped_or None exchange done = done

@@ -1,5 +1,5 @@
 -- What users of a desk may rely on.
-use Rattle.std.specs.Prelude.{ℕ, ◌≡◌, ◌<◌, ◌≤◌, Bool, List, [], ◌∷◌, ◌++◌, length, None}
+use Rattle.std.specs.Prelude.{ℕ, ◌≡◌, ◌≤◌, List, [], ◌++◌, length, None}
 use Rattle.std.specs.List.{flat_map}
 use Rattle.apdu_codec.specs.Command.{Apdu}
 use Rattle.apdu_codec.specs.declared.commands.Class.TheVariants.{Special}
@@ -25,7 +25,7 @@ pub record BringsBlock (blocks : List (List ℕ)) (p1 : ℕ) (c : Apdu) : Type 0
   pub fits : length (joined blocks ++ c.body) ≤ 4096
 
 -- what a refused command leaves: the unsent reply, no record, and no port that moves
-pub record IsRefusal (before : Exchange) (outcome : DeskOutcome) : Type 0 where
+pub record IsDeskRefusal (before : Exchange) (outcome : DeskOutcome) : Type 0 where
   pub reply : outcome.exchange.unsent ≡ before.unsent
   pub entry : outcome.entry ≡ None
   pub moves : outcome.moves ≡ []

@@ -5,7 +5,6 @@ use Rattle.file_rows.specs.declared.content.Content as contents
 use Rattle.record_codec.specs.Apply.{apply}
 use Rattle.record_codec.specs.Heads.{held_content}
 use Rattle.record_codec.specs.declared.durable.Durable.{Durable}
-use Rattle.record_codec.specs.declared.record.Record.{Record}
 use Rattle.record_codec.specs.declared.record.Record.TheVariants.{Content}
 
 -- the profile that stands on a port, where one does
@@ -13,13 +12,13 @@ abbrev pub profile_on : Durable → ℕ → Option ℕ
 profile_on durable port = slice_index_or durable.heads.ports.on port None
 
 -- a blank card has no file and no PIN
-abbrev pub blank : contents.Content
-blank = record { rows = []; pins = [] }
+abbrev pub blank_content : contents.Content
+blank_content = record { rows = []; pins = [] }
 
 -- the content of a profile, or a blank card's where there is none
 abbrev pub content_held : Durable → Option ℕ → contents.Content
-content_held durable None = blank
-content_held durable (Some profile) = unwrap_or (held_content profile durable) blank
+content_held durable None = blank_content
+content_held durable (Some profile) = unwrap_or (held_content profile durable) blank_content
 
 -- the content at a port: that of the profile which stands there
 abbrev pub content_on : Durable → ℕ → contents.Content

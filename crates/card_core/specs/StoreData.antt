@@ -14,8 +14,8 @@ use Rattle.plain_lists.specs.FirstOf.{first_of}
 use Rattle.record_codec.specs.declared.durable.Heads.{Heads}
 use Rattle.uicc_channels.specs.Needs.{refused_unless}
 use Rattle.uicc_channels.specs.Shape.{has_body, shape_refusal}
-use Rattle.card_core.specs.DeskOutcome.{DeskOutcome, answering, dropped, dropped_or, from_front}
-use Rattle.card_core.specs.DeskOutcome.{refused_or}
+use Rattle.card_core.specs.DeskOutcome.{DeskOutcome, desk_answer, dropped, dropped_or, from_front}
+use Rattle.card_core.specs.DeskOutcome.{desk_refused_or}
 use Rattle.card_core.specs.Exchange.{no_collection}
 use Rattle.card_core.specs.declared.exchange.Collection.{Collection}
 use Rattle.card_core.specs.declared.exchange.Exchange.{Exchange}
@@ -25,8 +25,8 @@ abbrev pub is_block : ℕ → Bool
 is_block p1 = (p1 == 0x11) || (p1 == 0x91)
 
 -- why a STORE DATA is refused by its form: its class, P1, a missing body
-abbrev pub form_refusal : Apdu → Option Sw
-form_refusal c = shape_refusal c (is_block c.p1) (has_body c)
+abbrev pub store_form_refusal : Apdu → Option Sw
+store_form_refusal c = shape_refusal c (is_block c.p1) (has_body c)
 
 -- block 00 begins anew; another one has to be the next
 abbrev pub is_next : Collection → ℕ → Bool
@@ -53,7 +53,7 @@ with_block collection c = record { blocks = c.p2 + 1; bytes = bytes_with collect
 -- a block that is taken drops what was unsent of the reply before
 abbrev pub collected : Exchange → Apdu → DeskOutcome
 collected exchange c =
-    answering (status_alone OK)
+    desk_answer (status_alone OK)
     (record { collection = with_block exchange.collection c; unsent = [] })
 
 -- a request is answered from the front of its reply, and the rest is left unsent
@@ -82,6 +82,6 @@ taken exchange heads busy port c =
 -- refused by its form, and nothing changes; then by its block, and what has come is dropped
 abbrev pub store_data : Exchange → Heads → List Bool → ℕ → Apdu → DeskOutcome
 store_data exchange heads busy port c =
-    refused_or (form_refusal c) exchange
+    desk_refused_or (store_form_refusal c) exchange
     (dropped_or (block_refusal exchange.collection c) exchange
     (taken exchange heads busy port c))

@@ -1,8 +1,8 @@
 //! A command for the ISD-R, from its decision to what the card keeps.
-ghost use Rattle.std.specs.Prelude.{◌≡◌, ◌<◌, IfOk, OnErr, OnOk};
+ghost use Rattle.std.specs.Prelude.{◌≡◌, ◌<◌, IfOk, OnErr, OnOk, is_some};
 ghost use Rattle.apdu_codec.specs.Command.{IsCommand, apdu_of};
 ghost use Rattle.record_codec.specs.IsDurable.{IsDurable};
-ghost use Rattle.card_core.specs.Carried.{MayChange, outcome_of};
+ghost use Rattle.card_core.specs.Carried.{SendsWhatIsLeft, decided_outcome};
 ghost use Rattle.card_core.specs.Desk.{TakesBlock, desk_outcome, desk_with, exchange_at};
 ghost use Rattle.card_core.specs.Desk.{failed_desk};
 ghost use Rattle.card_core.specs.Recorded.{recorded};
@@ -14,11 +14,13 @@ use isdr_commands::Moves;
 use record_codec::Durable;
 use std::alloc::Global;
 
-/// What a command for the ISD-R came to: its answer, and the ports whose profile it changed.
+/// What a command for the ISD-R came to: its answer, the ports whose profile it changed, and whether
+/// a record was carried out.
 #[derive(Debug, Drop)]
 pub struct IsdrAnswer {
     pub answer: Answer,
     pub moves: Moves,
+    pub recorded: bool,
 }
 
 impl Desk {
@@ -35,10 +37,10 @@ impl Desk {
         requires came { port < durable.old.heads.ports.count }
         requires command { IsCommand command.now }
         ensures outcome { IfOk result (λ decision.
-            outcome_of (exchange_at self.now command.now.channel) decision
+            decided_outcome (exchange_at self.now command.now.channel) decision
             ≡ desk_outcome self.now durable.old.heads busy.now port (apdu_of command.now)) }
         ensures fits { IfOk result (λ decision.
-            MayChange (exchange_at self.now command.now.channel) decision.exchange) }
+            SendsWhatIsLeft (exchange_at self.now command.now.channel) decision.exchange) }
         ensures kept { OnOk result (durable.new ≡ recorded durable.old
             (desk_outcome self.now durable.old.heads busy.now port (apdu_of command.now)).entry) }
         ensures are { IsDurable durable.new }
@@ -72,6 +74,9 @@ impl Desk {
             IfOk result (λ its. its.answer ≡ outcome.answer) }
         ensures moves { IfOk result (λ its. its.moves
             ≡ (desk_outcome self.old durable.old.heads busy.now port (apdu_of command.now)).moves) }
+        ensures recorded { let outcome = desk_outcome self.old durable.old.heads busy.now port
+            (apdu_of command.now) in
+            IfOk result (λ its. its.recorded ≡ is_some outcome.entry) }
         ensures kept { OnOk result (durable.new ≡ recorded durable.old
             (desk_outcome self.old durable.old.heads busy.now port (apdu_of command.now)).entry) }
         ensures desk { let outcome = desk_outcome self.old durable.old.heads busy.now port
@@ -87,12 +92,17 @@ impl Desk {
             Ok(decision) => {
                 let DeskDecision {
                     answer,
+                    entry,
                     moves,
                     exchange,
-                    ..
                 } = decision;
                 self.carry_out(port, command, &moves, exchange);
-                Ok(IsdrAnswer { answer, moves })
+                let recorded = entry.is_some();
+                Ok(IsdrAnswer {
+                    answer,
+                    moves,
+                    recorded,
+                })
             }
             Err(error) => {
                 self.fail(command);

@@ -2,8 +2,8 @@
 ghost use Rattle.std.specs.Prelude.{◌≡◌, ◌≤◌, ◌<◌, ◌==◌, ℕ, Bool, List, length, Some, IfOk};
 ghost use Rattle.std.specs.Prelude.{IfSome, OnErr};
 ghost use Rattle.apdu_codec.specs.Command.{Apdu, IsCommand, apdu_of};
-ghost use Rattle.card_core.specs.Carried.{MayChange, exchange_after, outcome_of};
-ghost use Rattle.card_core.specs.Desk.{TakesBlock, channel_left, desk_outcome, desk_with};
+ghost use Rattle.card_core.specs.Carried.{SendsWhatIsLeft, exchange_after, decided_outcome};
+ghost use Rattle.card_core.specs.Desk.{TakesBlock, left_channel, desk_outcome, desk_with};
 ghost use Rattle.card_core.specs.Desk.{empty_desk, exchange_at, failed_desk, fresh_desk, moves_at};
 ghost use Rattle.card_core.specs.Desk.{with_exchange, without_channel};
 ghost use Rattle.card_core.specs.Exchange.{idle, uncollected};
@@ -36,8 +36,8 @@ fn is_accepted(sw: Sw) -> bool
 }
 
 // The channel that a command of the card takes from the ISD-R.
-fn channel_left(command: &Command, sw: Sw) -> Option<u8>
-    ensures { result ≡ channel_left (apdu_of command.now) sw }
+fn left_channel(command: &Command, sw: Sw) -> Option<u8>
+    ensures { result ≡ left_channel (apdu_of command.now) sw }
 {
     match command.ins {
         ins::SELECT if is_accepted(sw) => Some(command.channel),
@@ -136,10 +136,10 @@ impl Desk {
         requires notes { length heads.now.notes.list ≤ 256 }
         requires command { IsCommand command.now }
         ensures outcome { IfOk result (λ decision.
-            outcome_of (exchange_at self.now command.now.channel) decision
+            decided_outcome (exchange_at self.now command.now.channel) decision
             ≡ desk_outcome self.now heads.now busy.now port (apdu_of command.now)) }
         ensures fits { IfOk result (λ decision.
-            MayChange (exchange_at self.now command.now.channel) decision.exchange) }
+            SendsWhatIsLeft (exchange_at self.now command.now.channel) decision.exchange) }
         ensures memory { OnErr result (TakesBlock self.now (apdu_of command.now)) }
     {
         let exchange = self.exchange_at(command.channel);
@@ -152,7 +152,7 @@ impl Desk {
 
     fn change(&mut self, channel: u8, change: ExchangeChange)
         requires channel { channel < 4 }
-        requires fits { MayChange (exchange_at self.old channel) change }
+        requires fits { SendsWhatIsLeft (exchange_at self.old channel) change }
         ensures { self.new ≡ with_exchange self.old channel
             (exchange_after (exchange_at self.old channel) change) }
     {
@@ -178,7 +178,7 @@ impl Desk {
     #[tactic(auto, using(crate::proofs::CommandLemmas::channel_of_command))]
     pub fn carry_out(&mut self, port: u8, command: &Command, moves: &Moves, change: ExchangeChange)
         requires command { IsCommand command.now }
-        requires fits { MayChange (exchange_at self.old command.now.channel) change }
+        requires fits { SendsWhatIsLeft (exchange_at self.old command.now.channel) change }
         ensures { self.new ≡ desk_with self.old port command.now.channel moves.now
             (exchange_after (exchange_at self.old command.now.channel) change) }
     {
@@ -203,9 +203,9 @@ impl Desk {
     /// What a command leaves that the card itself answered with this status word: nothing is under
     /// way on a channel that it selected anew or closed. It takes no memory.
     pub fn leave(&mut self, command: &Command, sw: Sw)
-        ensures { self.new ≡ without_channel self.old (channel_left (apdu_of command.now) sw) }
+        ensures { self.new ≡ without_channel self.old (left_channel (apdu_of command.now) sw) }
     {
-        if let Some(channel) = channel_left(command, sw)
+        if let Some(channel) = left_channel(command, sw)
             && channel < 4
         {
             self.put(channel, Exchange::idle(self.allocator()));

@@ -2,9 +2,9 @@
 ghost use Rattle.std.specs.Prelude.{◌≡◌, ◌≤◌, length, None, Some, MatchResult};
 ghost use Rattle.apdu_codec.specs.Command.{IsCommand, apdu_of};
 ghost use Rattle.uicc_channels.specs.GetResponse.{giving_refusal};
-ghost use Rattle.card_core.specs.Carried.{MayChange, outcome_of};
+ghost use Rattle.card_core.specs.Carried.{SendsWhatIsLeft, decided_outcome};
 ghost use Rattle.card_core.specs.GetResponse.{get_response, given};
-ghost use Rattle.card_core.specs.DeskOutcome.{refused};
+ghost use Rattle.card_core.specs.DeskOutcome.{desk_refusal};
 
 use crate::Exchange;
 use crate::desk_decision::{DeskDecision, ExchangeChange};
@@ -28,8 +28,8 @@ fn require_waiting(unsent: &[u8], le: u16) -> Result<(), Sw>
 // The next bytes of the reply.
 fn give(exchange: &Exchange, le: u16) -> DeskDecision
     requires { le ≤ 256 }
-    ensures value { outcome_of exchange.now result ≡ given exchange.now le }
-    ensures fits { MayChange exchange.now result.exchange }
+    ensures value { decided_outcome exchange.now result ≡ given exchange.now le }
+    ensures fits { SendsWhatIsLeft exchange.now result.exchange }
 {
     let unsent = exchange.unsent.as_slice();
     let count = count_given(unsent, le);
@@ -40,10 +40,10 @@ fn give(exchange: &Exchange, le: u16) -> DeskDecision
 fn try_give(exchange: &Exchange, command: &Command) -> Result<DeskDecision, Sw>
     requires { IsCommand command.now }
     ensures { MatchResult result
-        (λ decision. (outcome_of exchange.now decision
+        (λ decision. (decided_outcome exchange.now decision
         ≡ get_response exchange.now (apdu_of command.now))
-        × MayChange exchange.now decision.exchange)
-        (λ sw. refused exchange.now sw ≡ get_response exchange.now (apdu_of command.now)) }
+        × SendsWhatIsLeft exchange.now decision.exchange)
+        (λ sw. desk_refusal exchange.now sw ≡ get_response exchange.now (apdu_of command.now)) }
 {
     let parameters = command.p1 == 0x00 && command.p2 == 0x00;
     require_shape(command, parameters, has_le_alone(command))?;
@@ -55,9 +55,9 @@ fn try_give(exchange: &Exchange, command: &Command) -> Result<DeskDecision, Sw>
 // What a GET RESPONSE comes to where this is under way on its channel.
 pub fn get_response(exchange: &Exchange, command: &Command) -> DeskDecision
     requires { IsCommand command.now }
-    ensures value { outcome_of exchange.now result
+    ensures value { decided_outcome exchange.now result
         ≡ get_response exchange.now (apdu_of command.now) }
-    ensures fits { MayChange exchange.now result.exchange }
+    ensures fits { SendsWhatIsLeft exchange.now result.exchange }
 {
     match try_give(exchange, command) {
         Ok(decision) => decision,

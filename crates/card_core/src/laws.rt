@@ -9,10 +9,10 @@ ghost use Rattle.isdr_commands.specs.declared.moves.Move.{Move};
 ghost use Rattle.record_codec.specs.declared.durable.Heads.{Heads};
 ghost use Rattle.uicc_channels.specs.Accepted.{is_accepted};
 ghost use Rattle.card_core.specs.Desk.{desk_outcome, desk_with, exchange_at, moves_at};
-ghost use Rattle.card_core.specs.DeskOutcome.{answering};
+ghost use Rattle.card_core.specs.DeskOutcome.{desk_answer};
 ghost use Rattle.card_core.specs.Exchange.{idle, uncollected};
 ghost use Rattle.card_core.specs.GetResponse.{get_response, given};
-ghost use Rattle.card_core.specs.Laws.{BringsBlock, IsRefusal, IsWithinLimits, collection_of};
+ghost use Rattle.card_core.specs.Laws.{BringsBlock, IsDeskRefusal, IsWithinLimits, collection_of};
 ghost use Rattle.card_core.specs.Laws.{joined};
 ghost use Rattle.card_core.specs.StoreData.{requested, store_data};
 ghost use Rattle.card_core.specs.declared.desk.Desk.{Desk};
@@ -26,7 +26,7 @@ pub fn blocks_make_one_request()
     ensures more { (exchange : Exchange) (heads : Heads) (busy : List Bool) (port : ℕ) (c : Apdu)
         (blocks : List (List ℕ)) → exchange.collection ≡ collection_of blocks
         → BringsBlock blocks 0x11 c
-        → store_data exchange heads busy port c ≡ answering (status_alone Sw.OK)
+        → store_data exchange heads busy port c ≡ desk_answer (status_alone Sw.OK)
         (record { collection = collection_of (blocks ++ c.body ∷ []); unsent = [] }) }
     ensures last { (exchange : Exchange) (heads : Heads) (busy : List Bool) (port : ℕ) (c : Apdu)
         (blocks : List (List ℕ)) → exchange.collection ≡ collection_of blocks
@@ -55,7 +55,7 @@ pub fn replies_are_given_in_order()
 pub fn refused_commands_keep_the_reply()
     ensures { (desk : Desk) (heads : Heads) (busy : List Bool) (port : ℕ) (c : Apdu)
         → is_accepted (desk_outcome desk heads busy port c).answer.sw ≡ false
-        → IsRefusal (exchange_at desk c.channel) (desk_outcome desk heads busy port c) }
+        → IsDeskRefusal (exchange_at desk c.channel) (desk_outcome desk heads busy port c) }
 {}
 
 /// No more than 256 blocks and 4,096 bytes of a request are ever kept.

@@ -1,11 +1,13 @@
 //! The pure core of an eUICC with Multiple Enabled Profiles (GSMA SGP.22): events in, log entries
 //! out. It knows no store, no lock, no thread and no text.
 //!
-//! Today it has the types of events, scripts and log entries, and the desk of a port: what is under
-//! way there on the channels where the ISD-R is selected.
+//! A `Port` has the card that stands there, its desk, which is what is under way with the ISD-R, and
+//! its load. What an event makes of a whole card is defined in `specs/`; its run over a list of events
+//! isn't built yet.
 #![tactic(auto)]
 
 mod answering;
+mod card_laws;
 mod desk;
 mod desk_decision;
 mod entry;
@@ -14,12 +16,18 @@ mod exchange;
 mod get_response;
 mod giving;
 mod laws;
+mod load;
+mod port;
 mod port_content;
 mod recording;
 mod script;
 mod store_data;
 
 pub use answering::IsdrAnswer;
+pub use card_laws::{
+    contents_stay_until_they_are_deleted, own_commands_stay_at_their_port,
+    ports_step_as_their_cards_do, resets_stay_at_their_port,
+};
 pub use desk::Desk;
 pub use desk_decision::{DeskDecision, ExchangeChange};
 pub use entry::{Cause, Entry, Line, Loading, Maker};
@@ -29,6 +37,8 @@ pub use laws::{
     blocks_make_one_request, channels_stand_apart, refused_commands_keep_the_reply,
     replies_are_given_in_order, requests_stay_within_their_limits,
 };
+pub use load::Load;
+pub use port::{CardAnswer, Port};
 pub use port_content::{change_content, content_on, profile_on};
 pub use script::{Phase, Script, Section, Statement};
 pub use std::alloc::AllocError as NoMemory;

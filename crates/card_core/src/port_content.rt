@@ -10,7 +10,7 @@ ghost use Rattle.record_codec.specs.Heads.{held_content};
 ghost use Rattle.record_codec.specs.IsDurable.{IsDurable};
 ghost use Rattle.record_codec.specs.Room.{GrowsContent};
 ghost use Rattle.record_codec.specs.declared.record.Record as records;
-ghost use Rattle.card_core.specs.Port.{blank, changed_on, content_on, profile_on};
+ghost use Rattle.card_core.specs.Port.{blank_content, changed_on, content_on, profile_on};
 
 use crate::NoMemory;
 use crate::recording::store;
@@ -34,7 +34,7 @@ pub fn content_on(durable: &Durable, port: u8) -> Option<&Content>
     requires { IsDurable durable.now }
     ensures found { IfSome result (λ content. content_on durable.now port ≡ content.now) }
     ensures valid { IfSome result (λ content. IsValid content.now) }
-    ensures none { IfNone result (content_on durable.now port ≡ blank) }
+    ensures none { IfNone result (content_on durable.now port ≡ blank_content) }
 {
     match profile_on(durable, port) {
         Some(profile) => durable.content(profile),

@@ -4,10 +4,10 @@ ghost use Rattle.std.specs.Prelude.{MatchResult, OnErr};
 ghost use Rattle.apdu_codec.specs.Command.{IsCommand, apdu_of};
 ghost use Rattle.isdr_codec.specs.Request.{request_of};
 ghost use Rattle.isdr_commands.specs.Request.{answer_to, managed};
-ghost use Rattle.card_core.specs.Carried.{MayChange, outcome_of, replying};
-ghost use Rattle.card_core.specs.DeskOutcome.{dropped, refused};
+ghost use Rattle.card_core.specs.Carried.{SendsWhatIsLeft, decided_outcome, replying};
+ghost use Rattle.card_core.specs.DeskOutcome.{dropped, desk_refusal};
 ghost use Rattle.card_core.specs.StoreData.{block_refusal, bytes_before, bytes_with, collected};
-ghost use Rattle.card_core.specs.StoreData.{form_refusal, replied, requested, store_data, taken};
+ghost use Rattle.card_core.specs.StoreData.{store_form_refusal, replied, requested, store_data, taken};
 ghost use Rattle.card_core.specs.StoreData.{with_block};
 
 use crate::desk_decision::{DeskDecision, ExchangeChange};
@@ -31,8 +31,8 @@ const LAST_BLOCK: u8 = 0x91;
 const LONGEST_REQUEST: usize = 4096;
 
 fn require_form(command: &Command) -> Result<(), Sw>
-    ensures { MatchResult result (λ _. form_refusal (apdu_of command.now) ≡ None)
-        (λ sw. form_refusal (apdu_of command.now) ≡ Some sw) }
+    ensures { MatchResult result (λ _. store_form_refusal (apdu_of command.now) ≡ None)
+        (λ sw. store_form_refusal (apdu_of command.now) ≡ Some sw) }
 {
     let is_block = command.p1 == MORE_BLOCKS || command.p1 == LAST_BLOCK;
     require_shape(command, is_block, has_body(command))
@@ -141,8 +141,8 @@ fn end_request(
     requires came { port < heads.now.ports.count }
     requires notes { length heads.now.notes.list ≤ 256 }
     requires le { le ≤ 256 }
-    ensures fits { IfOk result (λ decision. MayChange exchange.now decision.exchange) }
-    ensures value { IfOk result (λ decision. outcome_of exchange.now decision
+    ensures fits { IfOk result (λ decision. SendsWhatIsLeft exchange.now decision.exchange) }
+    ensures value { IfOk result (λ decision. decided_outcome exchange.now decision
         ≡ requested exchange.now heads.now busy.now port le read.now) }
 {
     match read {
@@ -153,8 +153,8 @@ fn end_request(
 
 // A block that is taken, behind which more follow.
 fn collect(alloc: Global, exchange: &Exchange, command: &Command) -> Result<DeskDecision, NoMemory>
-    ensures fits { IfOk result (λ decision. MayChange exchange.now decision.exchange) }
-    ensures value { IfOk result (λ decision. outcome_of exchange.now decision
+    ensures fits { IfOk result (λ decision. SendsWhatIsLeft exchange.now decision.exchange) }
+    ensures value { IfOk result (λ decision. decided_outcome exchange.now decision
         ≡ collected exchange.now (apdu_of command.now)) }
 {
     let collection = with_block(alloc, &exchange.collection, command)?;
@@ -177,8 +177,8 @@ fn take_block(
     requires notes { length heads.now.notes.list ≤ 256 }
     requires command { IsCommand command.now }
     requires short { length (bytes_with exchange.now.collection (apdu_of command.now)) ≤ 4096 }
-    ensures fits { IfOk result (λ decision. MayChange exchange.now decision.exchange) }
-    ensures value { IfOk result (λ decision. outcome_of exchange.now decision
+    ensures fits { IfOk result (λ decision. SendsWhatIsLeft exchange.now decision.exchange) }
+    ensures value { IfOk result (λ decision. decided_outcome exchange.now decision
         ≡ taken exchange.now heads.now busy.now port (apdu_of command.now)) }
 {
     if command.p1 == LAST_BLOCK {
@@ -204,10 +204,10 @@ pub fn store_data(
     requires came { port < heads.now.ports.count }
     requires notes { length heads.now.notes.list ≤ 256 }
     requires command { IsCommand command.now }
-    ensures value { IfOk result (λ decision. outcome_of exchange.now decision
+    ensures value { IfOk result (λ decision. decided_outcome exchange.now decision
         ≡ store_data exchange.now heads.now busy.now port (apdu_of command.now)) }
-    ensures fits { IfOk result (λ decision. MayChange exchange.now decision.exchange) }
-    ensures form { OnErr result (form_refusal (apdu_of command.now) ≡ None) }
+    ensures fits { IfOk result (λ decision. SendsWhatIsLeft exchange.now decision.exchange) }
+    ensures form { OnErr result (store_form_refusal (apdu_of command.now) ≡ None) }
     ensures block { OnErr result
         (block_refusal exchange.now.collection (apdu_of command.now) ≡ None) }
 {

@@ -1,4 +1,4 @@
-use Rattle.std.proofs.Common.{◌≡◌, ◌≤◌, ◌+◌, ◌++◌, ◌==◌, ◌||◌, ℕ, Bool, true, false, not, nat_le}
+use Rattle.std.proofs.Common.{◌≡◌, ◌≤◌, ◌+◌, ◌++◌, ◌==◌, ℕ, Bool, true, false, not, nat_le}
 use Rattle.std.proofs.Common.{List, [], ◌∷◌, length, Option, Some, None, refl, sym, ap, subst, ◌∙◌}
 use Rattle.std.proofs.Common.{unwrap_or, arith, if◌then◌else◌, length-append}
 use Rattle.std.proofs.lemmas.List.{flat_map_more}
@@ -12,10 +12,10 @@ use Rattle.plain_lists.specs.FirstOf.{first_of}
 use Rattle.record_codec.specs.declared.durable.Heads.{Heads}
 use Rattle.uicc_channels.specs.Needs.{refused_unless}
 use Rattle.uicc_channels.specs.Shape.{has_body}
-use Rattle.card_core.specs.DeskOutcome.{DeskOutcome, answering, dropped_or, refused_or}
+use Rattle.card_core.specs.DeskOutcome.{DeskOutcome, desk_answer, dropped_or, desk_refused_or}
 use Rattle.card_core.specs.Laws.{BringsBlock, collection_of, joined}
 use Rattle.card_core.specs.StoreData.{block_refusal, bytes_before, bytes_with, collected}
-use Rattle.card_core.specs.StoreData.{form_refusal, is_block, is_next, requested, store_data}
+use Rattle.card_core.specs.StoreData.{store_form_refusal, is_block, is_next, requested, store_data}
 use Rattle.card_core.specs.StoreData.{taken, with_block}
 use Rattle.card_core.specs.declared.exchange.Collection.{Collection}
 use Rattle.card_core.specs.declared.exchange.Exchange.{Exchange}
@@ -37,7 +37,7 @@ before_next (block ∷ blocks) number e =
 
 -- where nothing refuses it, what is done is what it comes to
 passes : (exchange : Exchange) (done : DeskOutcome) (form block : Option Sw) → form ≡ None
-    → block ≡ None → refused_or form exchange (dropped_or block exchange done) ≡ done
+    → block ≡ None → desk_refused_or form exchange (dropped_or block exchange done) ≡ done
 passes exchange done None None no_form no_block = refl
 passes exchange done None (Some sw) no_form no_block = absurd (cc)
 passes exchange done (Some sw) block no_form no_block = absurd (cc)
@@ -56,7 +56,7 @@ some_body body some =
 
 -- the form of a STORE DATA
 form_of : (c : Apdu) → class_fits c.ins c.class ≡ true → is_block c.p1 ≡ true
-    → has_body c ≡ true → form_refusal c ≡ None
+    → has_body c ≡ true → store_form_refusal c ≡ None
 form_of c class kind body = rw (class, kind, body) refl
 
 module _ (blocks : List (List ℕ)) (p1 : ℕ) (c : Apdu) (brings : BringsBlock blocks p1 c)
@@ -75,7 +75,7 @@ module _ (blocks : List (List ℕ)) (p1 : ℕ) (c : Apdu) (brings : BringsBlock 
     kind : is_block c.p1 ≡ true
     kind = ap is_block brings.kind ∙ known
 
-    form : form_refusal c ≡ None
+    form : store_form_refusal c ≡ None
     form = form_of c class kind (some_body c.body brings.body)
 
     next : is_next (collection_of blocks) c.p2 ≡ true
@@ -93,7 +93,7 @@ module _ (blocks : List (List ℕ)) (p1 : ℕ) (c : Apdu) (brings : BringsBlock 
 
     store_is_taken : store_data before heads busy port c ≡ taken before heads busy port c
     store_is_taken =
-        passes before (taken before heads busy port c) (form_refusal c)
+        passes before (taken before heads busy port c) (store_form_refusal c)
         (block_refusal (collection_of blocks) c) form
         (block_of (is_next (collection_of blocks) c.p2) _ WRONG_P1_P2 WRONG_DATA next fits)
 
@@ -106,12 +106,12 @@ module _ (blocks : List (List ℕ)) (p1 : ℕ) (c : Apdu) (brings : BringsBlock 
         ∙ ap (collection_with (length (blocks ++ c.body ∷ []))) with_next
 
     more_is : c.p1 ≡ 0x11 → store_data before heads busy port c
-        ≡ answering (status_alone OK)
+        ≡ desk_answer (status_alone OK)
         (record { collection = collection_of (blocks ++ c.body ∷ []); unsent = [] })
     more_is e =
         store_is_taken
         ∙ otherwise (c.p1 == 0x91) _ (collected before c) (ap (λ (p1 : ℕ). p1 == 0x91) e)
-        ∙ ap (λ (collection : Collection). answering (status_alone OK)
+        ∙ ap (λ (collection : Collection). desk_answer (status_alone OK)
         (record { collection = collection; unsent = [] })) with_block_is
 
     last_is : c.p1 ≡ 0x91 → store_data before heads busy port c
@@ -127,7 +127,7 @@ pub returns-clause-more : goal.returns-clause-more
 returns-clause-more c exchange heads busy port command blocks are brings =
     subst (λ (collection : Collection).
     store_data (record { collection = collection; unsent = exchange.unsent }) heads busy port
-    command ≡ answering (status_alone OK)
+    command ≡ desk_answer (status_alone OK)
     (record { collection = collection_of (blocks ++ command.body ∷ []); unsent = [] })) (sym are)
     (more_is blocks 0x11 command brings refl exchange.unsent heads busy port brings.kind)
 

@@ -1,4 +1,4 @@
-use Rattle.std.proofs.Common.{◌≡◌, ◌≢◌, ℕ, zero, suc, Bool, true, false, refl, sym, subst, ◌∙◌}
+use Rattle.std.proofs.Common.{◌≡◌, ◌≢◌, ℕ, zero, suc, Bool, refl, sym, subst, ◌∙◌}
 use Rattle.std.proofs.Common.{if◌then◌else◌, Some}
 use Rattle.std.proofs.lemmas.List.{get_or-set_other}
 use Rattle.card_core.specs.Desk.{empty_desk, exchange_at, fresh_desk, with_exchange}

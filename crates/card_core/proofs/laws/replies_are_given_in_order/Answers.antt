@@ -1,4 +1,4 @@
-use Rattle.std.proofs.Common.{◌≡◌, ◌++◌, ℕ, List, [], ◌∷◌, take, drop, length, refl, arith}
+use Rattle.std.proofs.Common.{◌≡◌, ◌++◌, ℕ, List, [], ◌∷◌, take, drop, refl, arith}
 use Rattle.std.proofs.lemmas.List.{take-append-drop}
 use Rattle.apdu_codec.specs.declared.status.TheConstants.Sw.{OK}
 use Rattle.uicc_channels.specs.GetResponse.{rest_status}

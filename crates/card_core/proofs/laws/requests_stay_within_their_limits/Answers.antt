@@ -1,12 +1,10 @@
-use Rattle.std.proofs.Common.{◌≡◌, ◌≤◌, ◌<◌, ◌+◌, ℕ, Bool, true, false, nat_le, List, ◌∷◌, []}
-use Rattle.std.proofs.Common.{length, None, refl, arith}
+use Rattle.std.proofs.Common.{◌≡◌, ◌≤◌, ℕ, Bool, true, false, nat_le, ◌∷◌, []}
+use Rattle.std.proofs.Common.{None, refl, arith}
 use Rattle.apdu_codec.specs.declared.status.Sw.{Sw}
 use Rattle.plain_lists.specs.FirstOf.{first_of}
 use Rattle.uicc_channels.specs.Needs.{refused_unless}
 use Rattle.card_core.proofs.OutcomeLemmas.{desk_outcome-has}
-use Rattle.card_core.specs.Desk.{exchange_at}
 use Rattle.card_core.specs.Laws.{IsWithinLimits}
-use Rattle.card_core.specs.StoreData.{bytes_with}
 use Rattle.card_core.proofs.laws.requests_stay_within_their_limits.Goals as goal
 
 -- where neither refuses, the second need is met
@@ -29,5 +27,5 @@ returns c desk heads busy port command number within_limits =
       blocks = omega (arith, number);
       bytes = within _ (second_met _ _ _ _ block);
     })
-    (λ request. record { blocks = omega arith; bytes = omega arith })
+    (λ request short. record { blocks = omega arith; bytes = omega arith })
     (record { blocks = within_limits.blocks; bytes = within_limits.bytes })

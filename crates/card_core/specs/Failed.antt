@@ -1,0 +1,54 @@
+-- What a statement leaves for which memory was wanting or whose record wasn't stored. What the card
+-- keeps and its sessions are as before, and no other port has a line.
+use Rattle.std.specs.Prelude.{ℕ, ◌+◌, ◌&&◌, [], ◌∷◌, Option, None, option_map}
+use Rattle.std.specs.Prelude.{if◌then◌else◌}
+use Rattle.apdu_codec.specs.Command.{Apdu}
+use Rattle.apdu_codec.specs.declared.answers.Answer.{Answer}
+use Rattle.profile_card.specs.Own.{is_common}
+use Rattle.card_core.specs.Desk.{failed_desk}
+use Rattle.card_core.specs.IsdrCommand.{is_shared_command}
+use Rattle.card_core.specs.Load.{end_made, ends_with, load_step}
+use Rattle.card_core.specs.LoadState.{LoadState}
+use Rattle.card_core.specs.PortState.{PortState, counted}
+use Rattle.card_core.specs.World.{Made, WorldState, count_if, entry_at, next_maker, port_in}
+use Rattle.card_core.specs.World.{with_port}
+use Rattle.card_core.specs.declared.entry.Cause.{Cause}
+use Rattle.card_core.specs.declared.entry.Line.TheVariants.{Answered}
+use Rattle.card_core.specs.declared.entry.Loading.{Loading}
+use Rattle.card_core.specs.declared.entry.Loading.TheVariants.{Memory}
+
+-- what a command for the ISD-R fed is dropped, and a command of the card leaves the desk alone
+abbrev pub failed_port : PortState → Apdu → PortState
+failed_port port c = record (counted port) {
+  desk = if is_common port.session c then failed_desk port.desk c else port.desk;
+}
+
+-- a command that is answered so; the cause stands there where its record wasn't stored
+abbrev pub failed_command : WorldState → ℕ → Apdu → Answer → Option Cause → Made
+failed_command state port c answer cause = record {
+  state = record (with_port state port (failed_port (port_in state port) c)) {
+    shared = state.shared
+        + count_if (is_common (port_in state port).session c && is_shared_command c);
+  };
+  entries = entry_at state port (Answered (next_maker state port).number answer cause) ∷ [];
+}
+
+-- no bytes of the package are kept any more
+abbrev pub spoiled : LoadState → LoadState
+spoiled load = record load { received = None }
+
+-- a load that couldn't begin leaves the one that is there
+abbrev pub failed_begin : WorldState → ℕ → Made
+failed_begin state port =
+    load_step state port (record { load = (port_in state port).load; outcome = Memory })
+
+-- a piece for which memory was wanting spoils its load
+abbrev pub failed_piece : WorldState → ℕ → Made
+failed_piece state port = load_step state port (record {
+  load = option_map spoiled (port_in state port).load;
+  outcome = Memory;
+})
+
+-- the end of a load takes it away all the same
+abbrev pub failed_end : WorldState → ℕ → Loading → Made
+failed_end state port outcome = end_made state port (ends_with state.durable outcome)
