@@ -1,0 +1,15 @@
+pub mod CutLemmas
+pub mod DecideLemmas
+pub mod DraftLemmas
+pub mod FactLemmas
+pub mod FaultLemmas
+pub mod FeedLemmas
+pub mod FewLemmas
+pub mod HexLemmas
+pub mod ItemLemmas
+pub mod ListingLemmas
+pub mod PortLemmas
+pub mod ReadLemmas
+pub mod SplitLemmas
+pub mod StatementLemmas
+pub mod WordLemmas
