@@ -54,7 +54,7 @@ apart next (head ∷ profiles) below = (
   apart next profiles below.1,
 )
 
-not_next : (next : ℕ) (profiles : List ProfileHead)
+pub not_next : (next : ℕ) (profiles : List ProfileHead)
     → AllByRecursion (λ head. head.number < next) profiles → IsHeld next profiles → ⊥
 not_next next profiles below =
     any_of_none (λ (head : ProfileHead). head.number ≡ next) profiles (apart next profiles below)

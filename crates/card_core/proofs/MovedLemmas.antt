@@ -126,7 +126,7 @@ none_at (move ∷ moves) port none =
     by true is rest none = absurd cc
     by false is rest none = (eqb-false move.port port is, rest none)
 
-stands : (on : List (Option ℕ)) (port profile : ℕ) → slice_index_or on port None ≡ Some profile
+pub stands : (on : List (Option ℕ)) (port profile : ℕ) → slice_index_or on port None ≡ Some profile
     → slice_get on port ≡ Some (Some profile)
 stands [] port profile is = absurd (cc)
 stands (place ∷ on) zero profile is = ap Some is

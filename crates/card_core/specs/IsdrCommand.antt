@@ -17,7 +17,7 @@ use Rattle.card_core.specs.declared.desk.Desk.{Desk}
 use Rattle.card_core.specs.declared.entry.Entry.{Entry}
 use Rattle.card_core.specs.declared.entry.Line.{Line}
 use Rattle.card_core.specs.declared.entry.Line.TheVariants.{Bound, Unbound}
-use Rattle.card_core.specs.declared.entry.Maker.{Maker}
+use Rattle.card_core.specs.declared.telling.Telling.{Telling}
 
 abbrev pub is_under_way : Refresh → Bool
 is_under_way Quiet = false
@@ -69,14 +69,6 @@ at_each change number (item ∷ items) =
 abbrev pub ports_moved : ℕ → ℕ → List Move → List PortState → List PortState
 ports_moved came channel moves ports = at_each
     (λ number. port_moved (kept_on came channel number) (move_at moves number)) 0 ports
-
--- how the lines about moves tell of them: after so many shared statements, by this statement, which
--- came on that channel and whose record has this number
-pub record Telling : Type 0 where
-  pub turn : ℕ
-  pub by : Maker
-  pub channel : ℕ
-  pub commit : ℕ
 
 abbrev pub line_told : Telling → ℕ → Line → Entry
 line_told telling port line = record { turn = telling.turn; port = port; line = line }

@@ -21,4 +21,5 @@ pub mod Statements
 pub mod Failed
 pub mod Alone
 pub mod Text
+pub mod Whole
 pub mod Laws

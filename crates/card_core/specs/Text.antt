@@ -1,5 +1,5 @@
 -- The printed text of a run: the log of each port, section by section.
-use Rattle.std.specs.Prelude.{ℕ, ◌/◌, ◌%◌, Option, List, [], ◌∷◌, ◌++◌, codes, decimal}
+use Rattle.std.specs.Prelude.{ℕ, ◌/◌, ◌%◌, List, [], ◌∷◌, ◌++◌, codes, decimal}
 use Rattle.std.specs.List.{flat_map}
 use Rattle.hex.specs.Hex.{encode_upper}
 use Rattle.apdu_codec.specs.declared.answers.Answer.{Answer}

@@ -2,8 +2,7 @@
 //! out. It knows no store, no lock, no thread and no text.
 //!
 //! A `Port` has the card that stands there, its desk, which is what is under way with the ISD-R, and
-//! its load. What an event makes of a whole card is defined in `specs/`; its run over a list of events
-//! isn't built yet.
+//! its load. A `World` is a whole card, and `pure_run` its run over a list of events.
 #![tactic(auto)]
 
 mod answering;
@@ -12,16 +11,21 @@ mod desk;
 mod desk_decision;
 mod entry;
 mod event;
+mod event_check;
 mod exchange;
 mod get_response;
 mod giving;
+mod installing;
 mod laws;
 mod load;
 mod port;
 mod port_content;
 mod recording;
+mod run;
 mod script;
 mod store_data;
+mod telling;
+mod world;
 
 pub use answering::IsdrAnswer;
 pub use card_laws::{
@@ -32,6 +36,7 @@ pub use desk::Desk;
 pub use desk_decision::{DeskDecision, ExchangeChange};
 pub use entry::{Cause, Entry, Line, Loading, Maker};
 pub use event::{Event, LoadStep};
+pub use event_check::may_come;
 pub use exchange::{Collection, Exchange, Unsent};
 pub use laws::{
     blocks_make_one_request, channels_stand_apart, refused_commands_keep_the_reply,
@@ -40,8 +45,10 @@ pub use laws::{
 pub use load::Load;
 pub use port::{CardAnswer, Port};
 pub use port_content::{change_content, content_on, profile_on};
+pub use run::pure_run;
 pub use script::{Phase, Script, Section, Statement};
 pub use std::alloc::AllocError as NoMemory;
+pub use world::World;
 
 #[cfg(test)]
 mod tests;

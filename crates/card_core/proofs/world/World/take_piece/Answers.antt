@@ -1,0 +1,27 @@
+use Rattle.std.proofs.Common.{◌+◌, ℕ, ap}
+use Rattle.card_core.specs.Load.{piece_taken}
+use Rattle.card_core.specs.PortState.{counted}
+use Rattle.card_core.specs.declared.entry.Line.TheVariants.{Loaded}
+use Rattle.card_core.proofs.CameLemmas.{came_at_port, here, on_ok, told_as}
+use Rattle.card_core.proofs.WholeLemmas.{same_card}
+use Rattle.card_core.specs.declared.world.World.{World}
+use Rattle.card_core.proofs.world.World.take_piece.Goals as goal
+
+pub returns : goal.returns
+returns c =
+    let before : World = c.args.self.now in
+    let port = c.index_mut-port.result.now in
+    let place : ℕ = c.from.result in
+    let at = c.from.ensures in
+    let read = c.index_mut-port.ensures.value in
+    let number = c.next_number-number in
+    let was = here before c.args.came c.requires.whole c.requires.may place port at read in
+    on_ok c.tell.result c.tell.ensures.entries (λ told.
+    came_at_port before c.args.came c.requires.whole c.requires.may place port c.take_piece.new.self at
+    read c.tell.new.self (λ its. record (counted its) { load = (piece_taken its.load c.args.piece.now).load }) (λ its. Loaded (its.statements + 1) (piece_taken its.load c.args.piece.now).outcome)
+    (ap (λ its. its.items) c.tell.ensures.ports) c.tell.ensures.durable c.tell.ensures.shared
+    c.tell.ensures.commits (c.in_ok-outcome.ensures.state)
+    (same_card before.durable c.args.came port c.take_piece.new.self was c.in_ok-outcome.ensures.card
+    c.in_ok-outcome.ensures.session)
+    (told_as before c.tell.new.self.entries before.shared c.args.came (λ n. Loaded n (piece_taken port.load c.args.piece.now).outcome)
+    number.result (port.statements + 1) (told_as before c.tell.new.self.entries before.shared c.args.came (λ its. Loaded number.result its) c.in_ok-outcome.outcome _ told c.in_ok-outcome.ensures.outcome) number.ensures))
