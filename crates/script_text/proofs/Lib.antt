@@ -1,3 +1,4 @@
+pub mod CommandLemmas
 pub mod CutLemmas
 pub mod DecideLemmas
 pub mod DraftLemmas
@@ -8,6 +9,7 @@ pub mod FewLemmas
 pub mod HexLemmas
 pub mod ItemLemmas
 pub mod ListingLemmas
+pub mod LongLemmas
 pub mod PortLemmas
 pub mod ReadLemmas
 pub mod SplitLemmas

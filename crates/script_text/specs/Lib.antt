@@ -1,3 +1,4 @@
+pub mod Commands
 pub mod Draft
 pub mod Line
 pub mod Ports

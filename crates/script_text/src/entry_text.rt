@@ -1,12 +1,14 @@
 //! The text of log lines.
-ghost use Rattle.std.specs.Prelude.{◌≡◌, ◌++◌, decimal, OnOk};
+ghost use Rattle.std.specs.Prelude.{◌≡◌, ◌++◌, decimal, None, OnOk};
 ghost use Rattle.card_core.specs.Text.{answer_text, commit_text, entry_text, line_text};
 ghost use Rattle.card_core.specs.Text.{loading_text, maker_text, profile_text, refusal_text};
 ghost use Rattle.card_core.specs.Text.{statement_text};
+ghost use Rattle.card_core.specs.declared.entry.Line.TheVariants.{Answered};
 ghost use Rattle.std.specs.Prelude.{codes};
 
 use crate::pieces::{
     push_bytes, push_commit, push_hex, push_maker, push_number, push_profile, push_statement,
+    push_two,
 };
 use apdu_codec::Answer;
 use card_core::{Entry, Line, Loading, Maker};
@@ -18,7 +20,7 @@ fn push_answer(text: &mut Vec<u8>, answer: &Answer) -> Result<(), AllocError>
     ensures { OnOk result (text.new.items ≡ text.old.items ++ answer_text answer.now) }
 {
     push_hex(text, answer.body.as_slice())?;
-    push_hex(text, &answer.sw.to_bytes())?;
+    push_two(text, answer.sw.to_bytes())?;
     Ok(())
 }
 
@@ -179,6 +181,22 @@ fn push_line(text: &mut Vec<u8>, port: u8, line: &Line) -> Result<(), AllocError
             ..
         } => push_binding(text, port, b".- bound ", *profile, *by, *commit),
     }
+}
+
+/// Appends the line of an answer to the text of a log: `N.K ANSWER` for statement K of port N, with
+/// the answer's body and status word in upper-case hex.
+pub fn push_answer_line(
+    text: &mut Vec<u8>,
+    port: u8,
+    number: u32,
+    answer: &Answer,
+) -> Result<(), AllocError>
+    ensures { OnOk result (text.new.items ≡ text.old.items
+        ++ (line_text port (Answered number answer.now None) ++ codes "\n")) }
+{
+    push_answered(text, port, number, answer)?;
+    push_bytes(text, b"\n")?;
+    Ok(())
 }
 
 // Appends the line of an entry.

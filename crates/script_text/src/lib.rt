@@ -20,12 +20,16 @@ mod section_text;
 mod statement;
 mod words;
 
+pub use entry_text::push_answer_line;
 pub use fault::{ScriptFault, ScriptKind};
-pub use laws::{cutting_keeps_the_statements, texts_are_scripts_or_faulty};
+pub use laws::{
+    commands_alone_are_not_cut, cutting_keeps_the_statements, long_texts_are_refused,
+    texts_are_scripts_or_faulty,
+};
 pub use line_set::LineSet;
 pub use listing::render_listing;
 pub use port_check::check_ports;
-pub use reading::{read_script, read_script_of};
+pub use reading::{MAX_SCRIPT_BYTES, read_script, read_script_of};
 pub use section_text::{render_log, render_section};
 pub use std::alloc::AllocError as NoMemory;
 

@@ -1,5 +1,5 @@
 //! The pieces of a line of text.
-ghost use Rattle.std.specs.Prelude.{◌≡◌, ◌≤◌, ◌++◌, length, OnOk};
+ghost use Rattle.std.specs.Prelude.{◌≡◌, ◌≤◌, ◌*◌, ◌++◌, length, OnOk};
 ghost use Rattle.hex.specs.Hex.{encode_upper};
 ghost use Rattle.card_core.specs.Text.{commit_text, maker_text, profile_text, statement_text};
 
@@ -22,12 +22,11 @@ pub fn push_number<I: Integer>(text: &mut Vec<u8>, number: I) -> Result<(), Allo
     push_bytes(text, Buffer::new().format(number).as_bytes())
 }
 
-// Appends at most 256 bytes in upper-case hex.
-pub fn push_hex(text: &mut Vec<u8>, bytes: &[u8]) -> Result<(), AllocError>
-    requires { length bytes.now ≤ 256 }
+// Appends bytes in upper-case hex. The digits are first put into `room`.
+fn push_digits(text: &mut Vec<u8>, bytes: &[u8], room: &mut [u8]) -> Result<(), AllocError>
+    requires { 2 * length bytes.now ≤ length room.old }
     ensures { OnOk result (text.new.items ≡ text.old.items ++ encode_upper bytes.now) }
 {
-    let mut room = [0; 512];
     let digits = &mut room[..2 * bytes.len()];
     let _ = hex::encode_to_slice(bytes, digits);
     digits.make_ascii_uppercase();
@@ -35,11 +34,26 @@ pub fn push_hex(text: &mut Vec<u8>, bytes: &[u8]) -> Result<(), AllocError>
     Ok(())
 }
 
+// Appends at most 256 bytes in upper-case hex.
+pub fn push_hex(text: &mut Vec<u8>, bytes: &[u8]) -> Result<(), AllocError>
+    requires { length bytes.now ≤ 256 }
+    ensures { OnOk result (text.new.items ≡ text.old.items ++ encode_upper bytes.now) }
+{
+    push_digits(text, bytes, &mut [0; 512])
+}
+
+// Appends two bytes in upper-case hex.
+pub fn push_two(text: &mut Vec<u8>, bytes: [u8; 2]) -> Result<(), AllocError>
+    ensures { OnOk result (text.new.items ≡ text.old.items ++ encode_upper bytes) }
+{
+    push_digits(text, &bytes, &mut [0; 4])
+}
+
 // Appends the number of a profile.
 pub fn push_profile(text: &mut Vec<u8>, profile: u16) -> Result<(), AllocError>
     ensures { OnOk result (text.new.items ≡ text.old.items ++ profile_text profile) }
 {
-    push_hex(text, &profile.to_be_bytes())
+    push_two(text, profile.to_be_bytes())
 }
 
 // Appends `N.K`.

@@ -2,6 +2,8 @@
 //! once with ample memory.
 mod listing;
 mod log;
+mod rows;
+mod scripts;
 
 use super::*;
 use card_core::{Event, LoadStep, Phase, Script, Section, Statement};
@@ -114,7 +116,7 @@ fn texts_read_as_the_language_says(rt: HostRuntime) -> Result<(), Fail> {
 
 #[test]
 fn other_lines_are_outside_the_language(rt: HostRuntime) -> Result<(), Fail> {
-    let rows: [&[u8]; 39] = [
+    let rows: [&[u8]; 42] = [
         b"port 8: 00",
         b"port 10: 00",
         b"port 01: 00",
@@ -132,6 +134,9 @@ fn other_lines_are_outside_the_language(rt: HostRuntime) -> Result<(), Fail> {
         b"port 1: 0G",
         b"port 1: 00\r",
         b"port 1: 00\rport 1: 00",
+        b"port 1: 00\r\r\n",
+        b"\r",
+        b"\t# note\n",
         b"port",
         b"reset",
         b"reset 8",

@@ -1,5 +1,23 @@
+ghost use Rattle.std.specs.Prelude.{[], ◌∷◌};
+ghost use Rattle.bstr.specs.Bytes.{not_in};
+ghost use Rattle.bstr.specs.Find.{IsFirstByte};
+
 use bstr::ByteSlice;
 use std::marker::Model;
+
+// Where the first word begins. Mostly a space or none stands before it, so that the set of bytes
+// that a search of `bstr` makes would cost more than the search.
+#[tactic(auto, unfolding(bstr::specs::Bytes::is_in))]
+fn word_start(line: &[u8]) -> Option<usize>
+    ensures { IsFirstByte (not_in (32 ∷ [])) line.now result }
+{
+    for (place, byte) in line.iter().enumerate() {
+        if *byte != b' ' {
+            return Some(place);
+        }
+    }
+    None
+}
 
 // The words of a line that are left.
 #[derive(Drop)]
@@ -24,7 +42,7 @@ impl<'a> Iterator for Words<'a> {
     ghost remaining = { item_count (λ rest. rest) };
 
     fn next(&mut self) -> Option<&'a [u8]> {
-        let start = self.0.find_not_byteset(b" ")?;
+        let start = word_start(self.0)?;
         let line = &self.0[start..];
         let end = line.find_byte(b' ').unwrap_or(line.len());
         let (word, rest) = line.split_at(end);

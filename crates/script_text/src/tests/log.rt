@@ -116,3 +116,18 @@ fn each_line_has_its_text(rt: HostRuntime) -> Result<(), Fail> {
     assert_eq!(rt; text.as_slice(), want.as_slice());
     Ok(())
 }
+
+#[test]
+fn an_answer_has_its_line(rt: HostRuntime) -> Result<(), Fail> {
+    let answer = Answer {
+        body: AnswerBody::from_slice(b"\x98\x94\xF1"),
+        sw: Sw::OK,
+    };
+    let mut text = Vec::from_slice(rt.alloc(), b"1.1 6A82\n")?;
+    push_answer_line(&mut text, 1, 20_000, &answer)?;
+    assert_eq!(rt;
+        text.as_slice(),
+        b"1.1 6A82\n1.20000 9894F19000\n".as_slice()
+    );
+    Ok(())
+}

@@ -4,7 +4,7 @@ use Rattle.std.specs.Char.{to_ascii_uppercase}
 use Rattle.std.specs.Prelude.{IsOk}
 use Rattle.hex.specs.Hex.{encode_lower}
 use Rattle.script_text.proofs.HexLemmas.{of_ok, upper-encode_lower}
-use Rattle.script_text.proofs.pieces.push_hex.Goals as goal
+use Rattle.script_text.proofs.pieces.push_digits.Goals as goal
 
 pub returns : goal.returns
 returns c =
