@@ -1,5 +1,5 @@
 -- A bank of a flash, read row by row.
-use Rattle.std.proofs.Common.{◌≡◌, ℕ, ◌-◌, ◌*◌, ◌^◌, ◌<◌, ◌≤◌, List, [], ◌∷◌, ◌++◌, length, drop, Option, Some, None, IfSome, refl, sym, ◌∙◌, subst, arith}
+use Rattle.std.proofs.Common.{◌≡◌, ℕ, ◌-◌, ◌*◌, ◌^◌, ◌<◌, ◌≤◌, List, [], ◌∷◌, ◌++◌, length, drop, Option, Some, None, IfSome, IsSomeAnd, refl, sym, ◌∙◌, subst, arith}
 use Rattle.std.proofs.lemmas.List.{length-take}
 use Rattle.card_journal.specs.Next.{IsNext}
 use Rattle.card_journal.specs.Read.{BankHolds, IsRowAt, OnlyReads, ReadUpTo}
@@ -95,9 +95,11 @@ module _ (bank : Bank) (lies : LiesInFlash card_blocks bank) (start now : FlashS
       let same : next.0 ≡ entry = one_record row.bytes.items next.0 entry next.1 codes in
       none next.2.0 (subst (λ (e : Record). IsNext held e next.2.0) same next.2.1))
 
-  pub read_on : (row : Row) (entry : Record) (after : Durable) → row.next ≤ end_of bank → IfSome now.bytes (λ image. IsRowAt bank image at (Some row))
-      → Codes row.bytes.items entry → IsNext held entry after → IfSome start.bytes (λ image. ReadUpTo bank image (Some after) row.next)
-  read_on row entry after within seen codes next = both (λ image. IsRowAt bank image at (Some row)) (λ image. ReadUpTo bank image (Some after) row.next) seen
+  pub read_on : (row : Row) (entry : Record) (after : Option Durable) → row.next ≤ end_of bank → IfSome now.bytes (λ image. IsRowAt bank image at (Some row))
+      → Codes row.bytes.items entry → IsSomeAnd after (IsNext held entry) → IfSome start.bytes (λ image. ReadUpTo bank image after row.next)
+  read_on row entry None within seen codes next = absurd next
+  read_on row entry (Some after) within seen codes next =
+      both (λ image. IsRowAt bank image at (Some row)) (λ image. ReadUpTo bank image (Some after) row.next) seen
       (λ image read is. read_more bank image held at row.next row.bytes.items entry after read (one_more image read row within is) codes next)
 
 module _ (bank : Bank) (lies : LiesInFlash card_blocks bank) (start now : FlashState) (reads : OnlyReads start now) (at : ℕ) (place : IsPlaceIn bank at)
@@ -113,6 +115,8 @@ module _ (bank : Bank) (lies : LiesInFlash card_blocks bank) (start now : FlashS
       (λ image read row. read_all bank image card at read (bank-end bank at image read.bodies place.from_start place.to_end read.upto row))
 
 -- what a card holds one record later is what a card may hold
-pub next_valid : (held : Option Durable) (entry : Record) (after : Durable) → IfSome held IsDurable → IsNext held entry after → IsDurable after
-next_valid None entry after valid next = next.valid
-next_valid (Some held) entry after valid next = subst IsDurable (sym next.2) next.1.after
+pub next_valid : (held : Option Durable) (entry : Record) (after : Option Durable) → IfSome held IsDurable → IsSomeAnd after (IsNext held entry)
+    → IfSome after IsDurable
+next_valid held entry None valid next = absurd next
+next_valid None entry (Some after) valid next = next.valid
+next_valid (Some held) entry (Some after) valid next = subst IsDurable (sym next.2) next.1.after

@@ -1,5 +1,5 @@
 // What a card holds one record later.
-ghost use Rattle.std.specs.Prelude.{◌≡◌, ◌≢◌, ◌↔◌, IfOk, IfSome, IsErrOf, IsTrue};
+ghost use Rattle.std.specs.Prelude.{◌≡◌, ◌≢◌, ◌↔◌, IfOk, IfSome, IsErrOf, IsSomeAnd, IsTrue, OnOk};
 ghost use Rattle.card_journal.specs.Image.{MakesCard};
 ghost use Rattle.card_journal.specs.Next.{IsNext};
 ghost use Rattle.record_codec.specs.IsDurable.{IsDurable};
@@ -36,11 +36,11 @@ fn first(alloc: Global, entry: &Record) -> Result<Durable, ReadFault>
     }
 }
 
-fn later(mut held: Durable, entry: &Record) -> Result<Durable, ReadFault>
-    requires { IsDurable held }
-    ensures ok { IfOk result (λ after. IsNext (Some held) entry.now after) }
+fn carry_out(entry: &Record, held: &mut Durable) -> Result<(), ReadFault>
+    requires { IsDurable held.old }
+    ensures ok { OnOk result (IsNext (Some held.old) entry.now held.new) }
     ensures none { IsErrOf result ReadFault.NotACard
-        → (after : Durable) → ¬ IsNext (Some held) entry.now after }
+        → (after : Durable) → ¬ IsNext (Some held.old) entry.now after }
     ensures fault { result ≢ Err ReadFault.Flash }
 {
     if makes_card(entry) || !held.fits(entry) {
@@ -48,20 +48,23 @@ fn later(mut held: Durable, entry: &Record) -> Result<Durable, ReadFault>
     }
     let room = held.reserve(entry)?;
     held.apply(entry, room);
-    Ok(held)
+    Ok(())
 }
 
-/// What a card holds after one record more, or after its first one where it held nothing yet. It
-/// returns NotACard exactly where the record can't be that.
-pub fn next(alloc: Global, held: Option<Durable>, entry: &Record) -> Result<Durable, ReadFault>
-    requires { IfSome held IsDurable }
-    ensures ok { IfOk result (λ after. IsNext held entry.now after) }
+/// Carries out one record more where the card lies, or begins a card with its first one where
+/// nothing was held yet. It returns NotACard exactly where the record can't be that.
+pub fn next(alloc: Global, entry: &Record, held: &mut Option<Durable>) -> Result<(), ReadFault>
+    requires { IfSome held.old IsDurable }
+    ensures ok { OnOk result (IsSomeAnd held.new (IsNext held.old entry.now)) }
     ensures none { IsErrOf result ReadFault.NotACard
-        → (after : Durable) → ¬ IsNext held entry.now after }
+        → (after : Durable) → ¬ IsNext held.old entry.now after }
     ensures fault { result ≢ Err ReadFault.Flash }
 {
     match held {
-        None => first(alloc, entry),
-        Some(held) => later(held, entry),
+        Some(held) => carry_out(entry, held),
+        None => {
+            *held = Some(first(alloc, entry)?);
+            Ok(())
+        }
     }
 }

@@ -110,7 +110,7 @@ pub fn read_bank<F: Flash>(alloc: Global, flash: &mut F, bank: Bank) -> Result<F
     let mut held = None;
     'rows: while let Some(row) = read_at(alloc, flash, bank, at)? {
         let entry = entry_of(alloc, &row.bytes)?;
-        held = Some(next(alloc, held, &entry)?);
+        next(alloc, &entry, &mut held)?;
         at = row.next;
     }
     match held {

@@ -68,8 +68,8 @@ rows-preserved g c =
     let codes = subst (λ (bytes : List ℕ). Codes bytes entry) c.deref.ensures.value c.in_ok-entry.ensures.found in
     record {
       place = record { from_start = omega (arith, so_far.place.from_start, within.0); to_end = within.1 };
-      valid = next_valid c.rows.held entry c.in_ok-next.field-0 so_far.valid c.in_ok-next.ensures.ok;
-      read = read_on c.args.bank c.requires start now so_far.reads c.rows.held c.rows.at so_far.place so_far.read row entry c.in_ok-next.field-0 within.1 seen codes c.in_ok-next.ensures.ok;
+      valid = next_valid c.rows.held entry c.next.new.held so_far.valid c.in_ok-next.ensures.ok;
+      read = read_on c.args.bank c.requires start now so_far.reads c.rows.held c.rows.at so_far.place so_far.read row entry c.next.new.held within.1 seen codes c.in_ok-next.ensures.ok;
       reads = reads_then start now (g.F.Flash.state c.read_at.new.flash) (g.met.F.Flash.lawful c.read_at.new.flash) so_far.reads c.read_at.ensures.reads;
     }
 
