@@ -1,5 +1,5 @@
 -- Content goes into a file that has room for it.
-use Rattle.std.proofs.Common.{◌≡◌, ℕ, ◌+◌, ◌≤◌, Bool, true, false, cond, List, length, refl, sym, ◌∙◌, ap, Option, Some, None, Result, Ok, Err}
+use Rattle.std.proofs.Common.{◌≡◌, ℕ, ◌+◌, ◌≤◌, true, false, List, length, refl, sym, ◌∙◌, ap, Option, Some, None, Result, Ok, Err}
 use Rattle.std.specs.Prelude.{nat_le, slice_set, IsSomeAnd}
 use Rattle.std.proofs.lemmas.Bool.{cond-false, cond-true, false≢true, leb-true}
 use Rattle.file_rows.specs.Change.{with_body, written}

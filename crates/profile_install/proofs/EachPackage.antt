@@ -1,5 +1,5 @@
 -- Each byte string has its parts, and so an answer.
-use Rattle.std.proofs.Common.{◌≡◌, ℕ, zero, suc, ◌+◌, ◌<◌, ◌≤◌, true, false, List, [], ◌∷◌, length, refl, ◌⊎◌, ⊎_elim, Result, arith}
+use Rattle.std.proofs.Common.{◌≡◌, ℕ, zero, suc, ◌≤◌, true, false, List, [], ◌∷◌, refl, ⊎_elim, Result, arith}
 use Rattle.std.proofs.lemmas.Bool.{cases_Bool}
 use Rattle.file_rows.specs.declared.content.Content.{Content}
 use Rattle.package_reader.specs.Part.{HandsOut}

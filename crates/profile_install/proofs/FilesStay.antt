@@ -9,7 +9,6 @@ use Rattle.arrayvec.specs.ArrayVec.{ArrayVec}
 use Rattle.file_rows.specs.Change.{with_body, written}
 use Rattle.file_rows.specs.FileHead.{is_application}
 use Rattle.file_rows.specs.Path.{is_in, same_path}
-use Rattle.file_rows.specs.declared.head.FileHead.{FileHead}
 use Rattle.file_rows.specs.declared.row.FileRow.{FileRow}
 use Rattle.profile_install.specs.DraftFiles.{AreFound}
 use Rattle.profile_install.specs.FileKeys.{to_name, to_path, to_sfi}

@@ -1,5 +1,5 @@
 -- What a package gives is a valid content.
-use Rattle.std.proofs.Common.{◌≡◌, ℕ, ◌+◌, ◌-◌, Bool, true, false, cond, ◌<◌, ◌==◌, ◌&&◌, ◌||◌, List, [], ◌∷◌, ◌++◌, length, refl, sym, subst, inl, true≢false, arith, Option, Some, None, Result, Ok, Err}
+use Rattle.std.proofs.Common.{◌≡◌, ℕ, ◌+◌, ◌-◌, Bool, true, false, cond, ◌<◌, ◌==◌, ◌||◌, List, [], ◌∷◌, ◌++◌, length, refl, sym, subst, inl, true≢false, arith, Option, Some, None, Result, Ok, Err}
 use Rattle.std.specs.Bool.{⊤}
 use Rattle.std.specs.Prelude.{nat_le}
 use Rattle.file_rows.specs.Content.{IsValid}
@@ -11,13 +11,10 @@ use Rattle.package_reader.specs.Turn.{GoesBy, Turn}
 use Rattle.package_reader.specs.Turn.Turn.{Comes, Goes}
 use Rattle.package_reader.specs.declared.part.Part.{Part}
 use Rattle.package_reader.specs.declared.part.Part.TheVariants.{Head, Bytes, Close, More, Bad}
-use Rattle.profile_install.specs.Package.{AllWhole, PackageGives, after_part, after_turns, broken, closed, content_at_end, content_of_draft, fresh_work, gathering, going, headed, heading, is_gathering, is_used_up, constructed_begins, package_outcome, progress_after, refused_at, step_settled, valued, element_with_fault}
+use Rattle.profile_install.specs.Package.{AllWhole, PackageGives, after_part, after_turns, broken, closed, fresh_work, gathering, going, headed, heading, is_gathering, is_used_up, constructed_begins, progress_after, step_settled, valued, element_with_fault}
 use Rattle.profile_install.specs.State.{closed_at, depth_of, fresh_state, opened_at, valued_at}
 use Rattle.profile_install.specs.declared.fault.ElementFault.{ElementFault}
-use Rattle.profile_install.specs.declared.fault.ElementFault.TheVariants.{Malformed}
 use Rattle.profile_install.specs.declared.state.Awaited.{Awaited}
-use Rattle.profile_install.specs.declared.state.Spot.{Spot}
-use Rattle.profile_install.specs.declared.state.Spot.TheVariants.{Start, Elements, Ended, Header, Template, File, Descriptor, Lists, Steps, NewFile, Puks, PukEntry, Pins, PinEntry}
 use Rattle.profile_install.specs.declared.state.State.{State}
 use Rattle.profile_install.specs.declared.work.Faulty.{Faulty}
 use Rattle.profile_install.specs.declared.work.Progress.{Progress}
@@ -26,6 +23,7 @@ use Rattle.profile_install.specs.declared.work.Work.{Work}
 use Rattle.profile_install.proofs.GoodPins.{AreBytes}
 use Rattle.profile_install.proofs.GoodState.{IsGoodState, opened_good}
 use Rattle.profile_install.proofs.GoodParts.{closed_good, valued_good}
+use Rattle.profile_install.proofs.Outcome.{content_is}
 
 -- a package goes on with a good draft, or is refused
 abbrev pub IsGoodProgress : Progress → Type 0
@@ -199,62 +197,13 @@ fresh_good = record {
   at = λ e. absurd (true≢false (sym e));
 }
 
-no_content : (place : ℕ) (fault : ElementFault) (content : Content)
-    → refused_at place fault ≡ Ok content → ⊥
-no_content place fault content e = cc
-
-at_end_valid : (place : ℕ) (state : State) (spot : Spot) (used : Bool) (content : Content)
-    → IsGoodState state → content_at_end place state spot used ≡ Ok content → IsValid content
-at_end_valid place state Ended true content good e =
-    let same : content_of_draft state.draft ≡ content = cc in
-    subst (λ (c : Content). IsValid c) same good.good.valid
-at_end_valid place state Ended false content good e = absurd
-    (no_content (place + 1) Malformed content e)
-at_end_valid place state Start used content good e = absurd
-    (no_content (place + 1) Malformed content e)
-at_end_valid place state Elements used content good e = absurd
-    (no_content (place + 1) Malformed content e)
-at_end_valid place state (Header fields) used content good e = absurd
-    (no_content (place + 1) Malformed content e)
-at_end_valid place state (Template list) used content good e = absurd
-    (no_content (place + 1) Malformed content e)
-at_end_valid place state (File list parts) used content good e = absurd
-    (no_content (place + 1) Malformed content e)
-at_end_valid place state (Descriptor list) used content good e = absurd
-    (no_content (place + 1) Malformed content e)
-at_end_valid place state (Lists kind seen) used content good e = absurd
-    (no_content (place + 1) Malformed content e)
-at_end_valid place state Steps used content good e = absurd
-    (no_content (place + 1) Malformed content e)
-at_end_valid place state NewFile used content good e = absurd
-    (no_content (place + 1) Malformed content e)
-at_end_valid place state Puks used content good e = absurd
-    (no_content (place + 1) Malformed content e)
-at_end_valid place state (PukEntry fields) used content good e = absurd
-    (no_content (place + 1) Malformed content e)
-at_end_valid place state Pins used content good e = absurd
-    (no_content (place + 1) Malformed content e)
-at_end_valid place state (PinEntry fields) used content good e = absurd
-    (no_content (place + 1) Malformed content e)
-
-outcome_valid : (place : ℕ) (progress : Progress) (used : Bool) (content : Content)
-    → IsGoodProgress progress → package_outcome place progress used ≡ Ok content → IsValid content
-outcome_valid place (Going state) used content good e = by
-    ((depth_of state.spot == 0) && (state.passed == 0)) e
-  where
-    by : (b : Bool) → cond b (content_at_end place state state.spot used)
-        (refused_at place Malformed) ≡ Ok content → IsValid content
-    by true e = at_end_valid place state state.spot used content good e
-    by false e = absurd (no_content place Malformed content e)
-outcome_valid place (Broken faulty) used content good e = absurd
-    (no_content place Malformed content e)
-outcome_valid place (Refused fault) used content good e = absurd (no_content place fault content e)
-
 pub gives_valid : (iccid bytes : List ℕ) (content : Content) → AreBytes bytes
     → PackageGives iccid bytes (Ok content) → IsValid content
 gives_valid iccid bytes content are gives =
     let work = after_turns iccid fresh_work gives.turns in
-    outcome_valid work.place work.progress (is_used_up gives.last.unread) content
+    let given = content_is work.place work.progress (is_used_up gives.last.unread) content
+    (sym gives.meant) in
+    let good : IsGoodState given.0 = subst IsGoodProgress given.1
     (turns_go iccid (fed fresh_reader bytes) gives.last fresh_work gives.turns gives.parts.goes
-    gives.parts.whole are fresh_good)
-    (sym gives.meant)
+    gives.parts.whole are fresh_good) in
+    subst (λ (c : Content). IsValid c) given.2 good.good.valid

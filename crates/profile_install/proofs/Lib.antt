@@ -19,3 +19,7 @@ pub mod FirstFaulty
 pub mod OneIccid
 pub mod FilesStay
 pub mod Content
+pub mod Gives
+pub mod Outcome
+pub mod NamedFiles
+pub mod NamedParts

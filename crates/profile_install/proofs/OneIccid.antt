@@ -3,7 +3,7 @@ use Rattle.std.proofs.Common.{◌≡◌, ℕ, ◌+◌, ◌-◌, Bool, true, fals
 use Rattle.std.specs.Bool.{⊤}
 use Rattle.std.specs.Prelude.{nat_le}
 use Rattle.std.specs.Str.{bytes_eq}
-use Rattle.std.proofs.lemmas.Bool.{false≢true, true≢false}
+use Rattle.std.proofs.lemmas.Bool.{true≢false}
 use Rattle.std.proofs.lemmas.Slice.Eq.{bytes_eq-Decides}
 use Rattle.file_rows.specs.declared.content.Content.{Content}
 use Rattle.package_reader.specs.ReaderState.{fed, fresh_reader, opens}
@@ -14,7 +14,7 @@ use Rattle.package_reader.specs.declared.part.Part.TheVariants.{Head, Bytes, Clo
 use Rattle.profile_install.specs.ElementResult.{then_with}
 use Rattle.profile_install.specs.Header.{is_header_whole, major_told, no_header_fields, with_header_field, with_iccid, with_major, with_minor}
 use Rattle.profile_install.specs.Package.{PackageGives, after_part, after_turns, broken, closed, constructed_begins, content_at_end, element_with_fault, fresh_work, gathering, going, headed, heading, is_gathering, is_used_up, package_outcome, progress_after, refused_at, step_settled, valued}
-use Rattle.profile_install.specs.State.{at, closed_at, depth_of, opened_at, passing, valued_at}
+use Rattle.profile_install.specs.State.{at, closed_at, depth_of, opened_at, valued_at}
 use Rattle.profile_install.specs.Values.{one_byte}
 use Rattle.profile_install.specs.declared.fault.ElementFault.{ElementFault}
 use Rattle.profile_install.specs.declared.fault.ElementFault.TheVariants.{Malformed, BadParameter, WrongVersion}

@@ -15,3 +15,4 @@ pub mod BuilderState
 pub mod Builder
 pub mod FirstFaulty
 pub mod Room
+pub mod NamedFiles

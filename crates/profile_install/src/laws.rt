@@ -6,10 +6,12 @@ ghost use Rattle.file_rows.specs.Content.{IsValid};
 ghost use Rattle.file_rows.specs.declared.change.Change.{Change};
 ghost use Rattle.file_rows.specs.declared.content.Content.{Content};
 ghost use Rattle.file_rows.specs.declared.head.FileHead.{FileHead};
+ghost use Rattle.file_rows.specs.declared.row.FileRow.{FileRow};
 ghost use Rattle.fcp_codec.specs.Creation.{HoldsFilesAt};
 ghost use Rattle.fcp_codec.specs.declared.fcp.Fcp.{Fcp};
 ghost use Rattle.file_templates.specs.declared.template_row.Row.{Row};
 ghost use Rattle.profile_install.specs.FirstFaulty.{HasGoodElements, IsPackageResult};
+ghost use Rattle.profile_install.specs.NamedFiles.{IsNamed};
 ghost use Rattle.profile_install.specs.Package.{PackageGives};
 ghost use Rattle.profile_install.specs.declared.work.Refusal.{Refusal};
 ghost use Rattle.profile_install.specs.TemplateFile.{described, described_master};
@@ -59,4 +61,12 @@ pub fn packages_give_valid_contents()
     ensures { (iccid bytes : List ℕ) (content : Content)
         → AllByRecursion (λ byte. byte < 2 ^ 8) bytes
         → PackageGives iccid bytes (Ok content) → IsValid content }
+{}
+
+/// A package gives no files but those that it names: each is at a position of a template whose
+/// element has come, as the MF is, or has the identifier that a step of a file management element
+/// gives, in the directory where the step stands.
+pub fn a_package_gives_the_files_that_it_names()
+    ensures { (iccid bytes : List ℕ) (content : Content) → PackageGives iccid bytes (Ok content)
+        → AllByRecursion (λ (row : FileRow). IsNamed iccid bytes row.head.path) content.rows }
 {}

@@ -24,8 +24,8 @@ pub use fault::{ElementFault, StepFault};
 pub use file_rows::NoMemory;
 pub use header::HeaderFields;
 pub use laws::{
-    one_answer_of_a_package, packages_are_for_one_iccid, packages_give_valid_contents,
-    refusals_name_the_first_faulty_element, template_files_fit,
+    a_package_gives_the_files_that_it_names, one_answer_of_a_package, packages_are_for_one_iccid,
+    packages_give_valid_contents, refusals_name_the_first_faulty_element, template_files_fit,
 };
 pub use management::{Managed, Standing};
 pub use pin_entry::PinFields;
