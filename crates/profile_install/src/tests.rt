@@ -1,3 +1,5 @@
+mod cuttings;
+mod large;
 mod packages;
 mod refused_elements;
 mod refused_files;

@@ -15,19 +15,27 @@ pub const HEADER_AND_MF: &[u8] =
     b"\xA0\x12\x80\x01\x03\x81\x01\x03\x83\x0A\x98\x94\x00\x00\x00\x00\x00\x00\x00\xF1\
     \xB0\x08\x06\x06\x67\x81\x0F\x01\x02\x01";
 
-/// What a package in two pieces gives.
+/// What a package gives whose first pieces have these lengths, and what is left is the last one.
 pub fn built(
     alloc: Global,
     iccid: [u8; 10],
     bytes: &[u8],
-    cut: usize,
+    lengths: &[usize],
 ) -> Result<Content, BuildFault> {
     let mut builder = Builder::new(alloc, iccid);
-    if bytes.len() < 0x0100_0000 {
-        let (first, second) = bytes.split_at(cut.min(bytes.len()));
-        if builder.feed(first).is_err() || builder.feed(second).is_err() {
+    if bytes.len() >= 0x0100_0000 {
+        return Err(BuildFault::OutOfMemory);
+    }
+    let mut rest = bytes;
+    for length in lengths {
+        let (piece, behind) = rest.split_at(rest.len().min(*length));
+        if builder.feed(piece).is_err() {
             return Err(BuildFault::OutOfMemory);
         }
+        rest = behind;
+    }
+    if builder.feed(rest).is_err() {
+        return Err(BuildFault::OutOfMemory);
     }
     builder.end()
 }
@@ -48,7 +56,7 @@ pub fn built_behind(
     rest: &[u8],
 ) -> Result<Result<Content, BuildFault>, NoMemory> {
     let bytes = joined(alloc, front, rest, b"")?;
-    Ok(built(alloc, ICCID, bytes.as_slice(), 1))
+    Ok(built(alloc, ICCID, bytes.as_slice(), &[1]))
 }
 
 pub fn is_refused(answer: &Result<Content, BuildFault>, place: u32, number: u8) -> bool {

@@ -6,7 +6,7 @@ use std::test::Fail;
 
 #[test]
 fn other_templates_are_refused(rt: HostRuntime) -> Result<(), Fail> {
-    let cases: [Refused; 13] = [
+    let cases: [Refused; 19] = [
         (
             "another template for telecom",
             b"\xB2\x08\x06\x06\x67\x81\x0F\x01\x02\x01\xAA\x00",
@@ -78,6 +78,31 @@ fn other_templates_are_refused(rt: HostRuntime) -> Result<(), Fail> {
                 \x87\x10\x02\xFF\xFF\xFF\xFF\x89\x00\x00\x01\x00\xB4\x10\x06\x06\x67\x81\x0F\x01\
                 \x02\x05\xA2\x06\xA1\x04\x80\x02\xF1\x00\xAA\x00",
             4,
+            4,
+        ),
+        ("no template for telecom", b"\xB2\x00\xAA\x00", 3, 5),
+        ("no template for the USIM", b"\xB3\x00\xAA\x00", 3, 5),
+        ("no template for the ISIM", b"\xB5\x00\xAA\x00", 3, 5),
+        (
+            "telecom past the quota",
+            b"\xB2\x10\x06\x06\x67\x81\x0F\x01\x02\x03\xA9\x06\xA1\x04\x80\x02\xFD\x00\xAA\x00",
+            3,
+            4,
+        ),
+        (
+            "the USIM past the quota",
+            b"\xB3\x26\x06\x06\x67\x81\x0F\x01\x02\x04\xA2\x14\xA1\x12\x84\x10\xA0\x00\x00\x00\
+                \x87\x10\x02\xFF\xFF\xFF\xFF\x89\x00\x00\x01\x00\xA3\x06\xA1\x04\x80\x02\xFD\x00\
+                \xAA\x00",
+            3,
+            4,
+        ),
+        (
+            "the ISIM past the quota",
+            b"\xB5\x26\x06\x06\x67\x81\x0F\x01\x02\x08\xA2\x14\xA1\x12\x84\x10\xA0\x00\x00\x00\
+                \x87\x10\x04\xFF\xFF\xFF\xFF\x89\x00\x00\x01\x00\xA3\x06\xA1\x04\x80\x02\xFD\x00\
+                \xAA\x00",
+            3,
             4,
         ),
         (

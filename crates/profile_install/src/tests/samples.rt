@@ -86,6 +86,18 @@ pub fn has_pins(content: &Content) -> bool {
     }
 }
 
+// Whether files begin with these paths and bodies.
+fn begin_with(files: &[FileRow], wanted: &[(Path, &[u8])]) -> bool {
+    let mut files = files.iter();
+    for (path, body) in wanted {
+        match files.next() {
+            Some(row) if row.head.path == *path && row.body.as_slice() == *body => {}
+            _ => return false,
+        }
+    }
+    true
+}
+
 // Whether the first files are those of the MF, with these bodies.
 pub fn has_master<'x>(content: &Content, iccid: &'x [u8; 10], rules: &'x [u8]) -> bool {
     let files: [(Path, &[u8]); 6] = [
@@ -96,69 +108,53 @@ pub fn has_master<'x>(content: &Content, iccid: &'x [u8; 10], rules: &'x [u8]) -
         (at(0x2F06), rules),
         (at(0x2F08), &[0xFF; 5]),
     ];
-    let mut rows = content.rows.as_slice().iter();
-    for (path, body) in files {
-        match rows.next() {
-            Some(row) if row.head.path == path && row.body.as_slice() == body => {}
-            _ => return false,
-        }
-    }
-    true
+    begin_with(content.rows.as_slice(), &files)
 }
 
-#[test]
-fn the_first_sample_in_any_two_pieces(rt: HostRuntime) -> Result<(), Fail> {
-    let rules = rules(rt.alloc())?;
-    for cut in 0..142 {
-        let content = built(rt.alloc(), ICCID, SAMPLE, cut)?;
-        assert_eq!(rt; content.rows.len(), 6);
-        assert!(rt;
-            has_master(&content, &ICCID, rules.as_slice()) && has_pins(&content),
-            "{cut}"
-        );
-    }
-    Ok(())
+fn in_usim(id: u16) -> Path {
+    Path::from_slice(&[0x7FD0, id])
 }
 
-#[test]
-fn the_second_sample_has_a_usim(rt: HostRuntime) -> Result<(), Fail> {
-    let rules = rules(rt.alloc())?;
-    let content = built(rt.alloc(), OTHER_ICCID, SECOND_SAMPLE, 100)?;
-    assert_eq!(rt; content.rows.len(), 27);
-    assert_eq!(rt; use_of(&content), 4_024);
-    assert!(rt; has_master(&content, &OTHER_ICCID, rules.as_slice()) && has_pins(&content));
+// Whether behind six files come those of the USIM, the first of them with these bodies.
+fn has_usim(content: &Content, rules: &[u8]) -> bool {
     let files: [(Path, &[u8]); 5] = [
-        (Path::from_slice(&[0x7FD0]), &[]),
-        (
-            Path::from_slice(&[0x7FD0, 0x6F07]),
-            b"\x08\x09\x10\x10\x00\x00\x00\x00\x10",
-        ),
-        (Path::from_slice(&[0x7FD0, 0x6F06]), rules.as_slice()),
-        (Path::from_slice(&[0x7FD0, 0x6F08]), &[0xFF; 33]),
-        (Path::from_slice(&[0x7FD0, 0x6F09]), &[0xFF; 33]),
+        (at(0x7FD0), &[]),
+        (in_usim(0x6F07), b"\x08\x09\x10\x10\x00\x00\x00\x00\x10"),
+        (in_usim(0x6F06), rules),
+        (in_usim(0x6F08), &[0xFF; 33]),
+        (in_usim(0x6F09), &[0xFF; 33]),
     ];
-    let mut rows = content.rows.as_slice().iter().skip(6);
-    for (path, body) in files {
-        match rows.next() {
-            Some(row) => {
-                assert!(rt; row.head.path == path);
-                assert_eq!(rt; row.body.as_slice(), body);
-            }
-            None => assert!(rt; false),
-        }
-    }
-    match content.rows.as_slice().get(6) {
-        Some(row) => assert_eq!(rt; row.head.name.as_slice(), USIM_NAME.as_slice()),
-        None => assert!(rt; false),
-    }
-    Ok(())
+    let [_, _, _, _, _, _, behind @ ..] = content.rows.as_slice() else {
+        return false;
+    };
+    let usim = behind.first();
+    usim.is_some_and(|usim| usim.head.name.as_slice() == USIM_NAME.as_slice())
+        && begin_with(behind, &files)
+}
+
+// Whether a content is that of the first sample.
+pub fn is_first(content: &Content, rules: &[u8]) -> bool {
+    content.rows.len() == 6
+        && use_of(content) == 781
+        && has_master(content, &ICCID, rules)
+        && has_pins(content)
+}
+
+// Whether a content is that of the second sample.
+pub fn is_second(content: &Content, rules: &[u8]) -> bool {
+    content.rows.len() == 27
+        && use_of(content) == 4_024
+        && has_master(content, &OTHER_ICCID, rules)
+        && has_usim(content, rules)
+        && has_pins(content)
 }
 
 #[test]
 fn the_first_sample_without_its_last_byte_is_refused(rt: HostRuntime) {
-    let answer = built(rt.alloc(), ICCID, &SAMPLE[..140], 70);
+    let answer = built(rt.alloc(), ICCID, &SAMPLE[..140], &[70]);
     assert!(rt; is_refused(&answer, 4, 5));
     one_answer_of_a_package();
+    a_package_gives_the_files_that_it_names();
     packages_give_valid_contents();
     refusals_name_the_first_faulty_element();
     packages_are_for_one_iccid();
@@ -167,9 +163,7 @@ fn the_first_sample_without_its_last_byte_is_refused(rt: HostRuntime) {
 #[test]
 fn an_element_of_no_effect_changes_nothing(rt: HostRuntime) -> Result<(), Fail> {
     let rules = rules(rt.alloc())?;
-    let content = built(rt.alloc(), ICCID, WITH_NO_EFFECT, 139)?;
-    assert_eq!(rt; content.rows.len(), 6);
-    assert_eq!(rt; use_of(&content), 781);
-    assert!(rt; has_master(&content, &ICCID, rules.as_slice()) && has_pins(&content));
+    let content = built(rt.alloc(), ICCID, WITH_NO_EFFECT, &[139])?;
+    assert!(rt; is_first(&content, rules.as_slice()));
     Ok(())
 }
