@@ -1,6 +1,14 @@
 //! A record as the body of a row, a bank with the rows of a card, byte by byte, and commits.
+pub(crate) mod bare_flash;
+pub(crate) mod cards;
+mod cutting;
+mod failing;
+mod filling;
 pub(crate) mod fixture;
+mod folding;
 mod making;
+mod opening;
+pub(crate) mod stores;
 
 ghost use Rattle.card_journal.specs.Store.{store_of};
 ghost use Rattle.card_journal.specs.StoreState.{IsUsable};

@@ -1,40 +1,10 @@
 //! A pooled content is changed as a plain one is.
 use crate::PooledContent;
-use file_rows::{Change, Content, FileHead, FileRow, Kind, Life, Name, Path, Piece, PinRow};
+use crate::tests::cards::{head, pin, row, same_content};
+use file_rows::{Change, Content, Kind, Life, Path, Piece};
 use plain_lists::LongList;
 use std::alloc::{AllocError, Global};
 use std::test::*;
-
-fn head(path: &Path, kind: Kind, record_len: u8, size: u16) -> FileHead {
-    FileHead {
-        path: path.copy(),
-        kind,
-        life: Life::Active,
-        sfi: 0,
-        name: Name::new(),
-        rule: None,
-        record_len,
-        size,
-    }
-}
-
-fn row(alloc: Global, head: FileHead, body: &[u8]) -> Result<FileRow, AllocError> {
-    let body = LongList::from(Vec::from_slice(alloc, body)?);
-    Ok(FileRow { head, body })
-}
-
-fn pin(number: u8, home: Path, key: u8, left: u8) -> PinRow {
-    PinRow {
-        number,
-        home,
-        key,
-        value: [0xFF; 8],
-        max: 3,
-        left,
-        enabled: true,
-        puk: None,
-    }
-}
 
 // The MF, four bytes, a directory with a cyclic file of two records, five bytes, and two PINs.
 fn content(alloc: Global) -> Result<Content, AllocError> {
@@ -54,17 +24,6 @@ fn content(alloc: Global) -> Result<Content, AllocError> {
     Ok(Content { rows, pins })
 }
 
-fn same_rows(one: &[FileRow], other: &[FileRow]) -> bool {
-    one.len() == other.len()
-        && one.iter().zip(other).all(|(one, other)| one.head == other.head
-            && one.body.as_slice() == other.body.as_slice())
-}
-
-fn same(one: &Content, other: &Content) -> bool {
-    same_rows(one.rows.as_slice(), other.rows.as_slice())
-        && one.pins.as_slice() == other.pins.as_slice()
-}
-
 // Makes the change in the pool, and says whether it fits and the content is then the plain one
 // after it.
 fn changes_alike(pooled: &mut PooledContent, change: &Change) -> Result<bool, AllocError> {
@@ -74,7 +33,7 @@ fn changes_alike(pooled: &mut PooledContent, change: &Change) -> Result<bool, Al
     }
     let wanted = before.changed(change)?;
     pooled.apply(change);
-    Ok(same(&pooled.to_content()?, &wanted))
+    Ok(same_content(&pooled.to_content()?, &wanted))
 }
 
 #[test]
@@ -82,7 +41,7 @@ fn each_change_is_made_as_in_a_plain_content(rt: HostRuntime) -> Result<(), Fail
     let content = content(rt.alloc())?;
     assert!(rt; content.is_valid());
     let mut pooled = PooledContent::from_content(rt.alloc(), &content)?;
-    assert!(rt; same(&pooled.to_content()?, &content));
+    assert!(rt; same_content(&pooled.to_content()?, &content));
     let first = Path::from_slice(&[0x2F05]);
     let cyclic = Path::from_slice(&[0x7F10, 0x6F44]);
     let new = Path::from_slice(&[0x7F10, 0x6F3A]);
