@@ -4,10 +4,11 @@ mod carrying;
 
 ghost use Rattle.record_codec.specs.Sizes.{HasSizes};
 ghost use Rattle.record_codec.specs.Spelling.{spelling};
-ghost use Rattle.std.specs.Prelude.{◌<◌, ◌^◌, length};
+ghost use Rattle.record_codec.specs.declared.record.Record.{Record};
+ghost use Rattle.std.specs.Prelude.{◌≡◌, ◌<◌, ◌^◌, length};
 
 use super::*;
-use file_rows::{Change, Path, Piece};
+use file_rows::{Change, FileHead, Kind, Life, Name, Path, Piece, PinRow, Rule};
 use notify_list::Operation;
 use port_table::PortMode;
 use std::process::Abort;
@@ -42,6 +43,104 @@ fn a_change_of_a_content_is_coded(rt: HostRuntime) {
     };
     let coding = [3, 0x04, 0x4C, 0, 1, 0x2F, 0xE2, 0, 3, 0, 2, 0xAA, 0xBB];
     is_coded(&rt, &entry, &coding);
+}
+
+fn change_of_1100(change: Change) -> Record
+    ensures { result ≡ Record.Content 1100 change }
+{
+    Record::Content {
+        profile: 1100,
+        change,
+    }
+}
+
+#[test]
+fn changes_of_files_are_coded(rt: HostRuntime) {
+    let write = change_of_1100(Change::WriteRecord {
+        path: Path::from_slice(&[0x7F10, 0x6F44]),
+        number: 2,
+        bytes: Piece::from_slice(&[0xAA]),
+    });
+    let coding = [3, 0x04, 0x4C, 1, 2, 0x7F, 0x10, 0x6F, 0x44, 2, 0, 1, 0xAA];
+    is_coded(&rt, &write, &coding);
+    let gone = change_of_1100(Change::FileGone {
+        path: Path::from_slice(&[0x7F10]),
+    });
+    is_coded(&rt, &gone, &[3, 0x04, 0x4C, 4, 1, 0x7F, 0x10]);
+    let state = change_of_1100(Change::FileState {
+        path: Path::from_slice(&[0x2F05]),
+        life: Life::Terminated,
+    });
+    is_coded(&rt, &state, &[3, 0x04, 0x4C, 5, 1, 0x2F, 0x05, 2]);
+    let size = change_of_1100(Change::FileSize {
+        path: Path::from_slice(&[0x2F05]),
+        size: 0x0102,
+    });
+    is_coded(&rt, &size, &[3, 0x04, 0x4C, 6, 1, 0x2F, 0x05, 1, 2]);
+}
+
+#[test]
+fn a_new_file_is_coded(rt: HostRuntime) {
+    let linear = change_of_1100(Change::FileAdd {
+        head: FileHead {
+            path: Path::from_slice(&[0x6F3A]),
+            kind: Kind::Linear,
+            life: Life::Deactivated,
+            sfi: 5,
+            name: Name::new(),
+            rule: Some(Rule {
+                file: 0x2F06,
+                row: 3,
+            }),
+            record_len: 2,
+            size: 6,
+        },
+    });
+    let coding = [
+        3, 0x04, 0x4C, 3, 1, 0x6F, 0x3A, 4, 1, 5, 0, 0, 1, 0x2F, 0x06, 3, 2, 0, 6,
+    ];
+    is_coded(&rt, &linear, &coding);
+}
+
+#[test]
+fn a_new_application_is_coded(rt: HostRuntime) {
+    let application = change_of_1100(Change::FileAdd {
+        head: FileHead {
+            path: Path::from_slice(&[0x7FF0]),
+            kind: Kind::Application,
+            life: Life::Active,
+            sfi: 0,
+            name: Name::from_slice(&[0xA0, 0, 0, 0, 0x87]),
+            rule: None,
+            record_len: 0,
+            size: 0,
+        },
+    });
+    let coding = [
+        3, 0x04, 0x4C, 3, 1, 0x7F, 0xF0, 2, 0, 0, 0, 5, 0xA0, 0, 0, 0, 0x87, 0, 0, 0, 0,
+    ];
+    is_coded(&rt, &application, &coding);
+}
+
+#[test]
+fn a_pin_is_coded(rt: HostRuntime) {
+    let pin = change_of_1100(Change::PinSet {
+        row: PinRow {
+            number: 2,
+            home: Path::from_slice(&[0x7F10]),
+            key: 0x81,
+            value: [0x31, 0x32, 0x33, 0x34, 0xFF, 0xFF, 0xFF, 0xFF],
+            max: 3,
+            left: 2,
+            enabled: false,
+            puk: None,
+        },
+    });
+    let coding = [
+        3, 0x04, 0x4C, 2, 2, 1, 0x7F, 0x10, 0x81, 0x31, 0x32, 0x33, 0x34, 0xFF, 0xFF, 0xFF, 0xFF,
+        3, 2, 0, 0,
+    ];
+    is_coded(&rt, &pin, &coding);
 }
 
 #[test]

@@ -3,7 +3,7 @@ ghost use Rattle.std.specs.Prelude.{◌≤◌, length, IfOk};
 ghost use Rattle.record_codec.specs.IsDurable.{IsDurable};
 
 use super::*;
-use file_rows::{Content, FileHead, FileRow, Kind, Life, Name, PinRow, Puk, Rule};
+use file_rows::{Content, FileRow, Puk};
 use notify_list::{Address, Note};
 use plain_lists::LongList;
 use std::alloc::{AllocError, Global};
