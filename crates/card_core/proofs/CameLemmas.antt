@@ -8,7 +8,7 @@ use Rattle.card_core.proofs.WholeLemmas.{found, ports_put, stand_after, state_at
 use Rattle.card_core.specs.AtPort.{AreAtPorts, IsAtPort, port_state}
 use Rattle.card_core.specs.Port.{content_on}
 use Rattle.card_core.specs.PortState.{PortState}
-use Rattle.card_core.specs.Whole.{Came, IsWhole, MayGoOn, state_of}
+use Rattle.card_core.specs.Whole.{Came, IsWholeCard, MayGoOn, world_state}
 use Rattle.card_core.specs.World.{WorldState, port_in}
 use Rattle.card_core.specs.declared.entry.Entry.{Entry}
 use Rattle.card_core.specs.declared.entry.Line.{Line}
@@ -39,7 +39,7 @@ same_state one other ports others s t m n durable is shared commits =
 
 -- a card that keeps what a card may, with the ports that stand there
 pub whole_kept : (now : World) (durable : Durable) (ports : List Port) → now.durable ≡ durable
-    → now.ports.items ≡ ports → IsDurable durable → AreAtPorts durable ports → IsWhole now
+    → now.ports.items ≡ ports → IsDurable durable → AreAtPorts durable ports → IsWholeCard now
 whole_kept now durable ports kept same are at = record {
   are = subst IsDurable (sym kept) are;
   at = subst (λ (its : Durable). AreAtPorts its now.ports.items) (sym kept)
@@ -47,8 +47,8 @@ whole_kept now durable ports kept same are at = record {
 }
 
 -- the place of the port on which a statement came
-module _ (before : World) (came : ℕ) (whole : IsWhole before)
-    (may : MayGoOn (state_of before) came) where
+module _ (before : World) (came : ℕ) (whole : IsWholeCard before)
+    (may : MayGoOn (world_state before) came) where
   pub below_ports : came < length before.ports.items
   below_ports = subst (λ (n : ℕ). came < n) (sym whole.at.count) may.here
 
@@ -57,7 +57,7 @@ module _ (before : World) (came : ℕ) (whole : IsWhole before)
     is : port ≡ get_or before.ports.items came port
     is = read ∙ ap (λ (n : ℕ). get_or before.ports.items n port) at
 
-    pub port_is : port_in (state_of before) came ≡ port_state port
+    pub port_is : port_in (world_state before) came ≡ port_state port
     port_is = state_at before.ports.items came port below_ports is
 
     pub statements_fit : port.statements + 1 < 2 ^ 32
@@ -76,7 +76,7 @@ pub ruleset places = (below_ports, statements_fit, here)
 pub came_there : (before after : World) (durable : Durable) (ports : List PortState)
     (shared commits : ℕ) (entries : List Entry) → after.durable ≡ durable
     → map port_state after.ports.items ≡ ports → after.shared ≡ shared → after.commits ≡ commits
-    → after.entries ≡ before.entries ++ entries → IsWhole after
+    → after.entries ≡ before.entries ++ entries → IsWholeCard after
     → Came before after (record {
       state = state_with durable ports shared commits;
       entries = entries;
@@ -99,13 +99,13 @@ told_as {X} before after turn port line x y told same =
     ++ record { turn = turn; port = port; line = line its } ∷ []) same
 
 -- the ports of a card of which one was changed
-module _ (before : World) (came : ℕ) (whole : IsWhole before)
-    (may : MayGoOn (state_of before) came) (place : ℕ) (port put : Port) (at : place ≡ came)
+module _ (before : World) (came : ℕ) (whole : IsWholeCard before)
+    (may : MayGoOn (world_state before) came) (place : ℕ) (port put : Port) (at : place ≡ came)
     (read : port ≡ get_or before.ports.items place port) where
   pub ports_with : (change : PortState → PortState) → port_state put ≡ change (port_state port)
       → map port_state (slice_set before.ports.items place put)
       ≡ slice_set (map port_state before.ports.items) came
-      (change (port_in (state_of before) came))
+      (change (port_in (world_state before) came))
   ports_with change same =
       ap (λ (n : ℕ). map port_state (slice_set before.ports.items n put)) at
       ∙ ports_put before.ports.items came port put
@@ -126,7 +126,7 @@ module _ (before : World) (came : ℕ) (whole : IsWhole before)
       → IsDurable durable → durable.heads ≡ before.durable.heads
       → ((other : ℕ) → other ≢ came
       → content_on durable other ≡ content_on before.durable other)
-      → IsAtPort durable came put → IsWhole now
+      → IsAtPort durable came put → IsWholeCard now
   whole_with now durable ports kept are heads elsewhere here =
       whole_kept now durable (slice_set before.ports.items place put) kept ports are
       (stand_with durable heads elsewhere here)
@@ -137,7 +137,7 @@ module _ (before : World) (came : ℕ) (whole : IsWhole before)
   stand_as_before here = stand_with before.durable refl (λ other apart. refl) here
 
   pub whole_as_before : (now : World) → now.ports.items ≡ slice_set before.ports.items place put
-      → now.durable ≡ before.durable → IsAtPort before.durable came put → IsWhole now
+      → now.durable ≡ before.durable → IsAtPort before.durable came put → IsWholeCard now
   whole_as_before now ports kept here =
       whole_with now before.durable ports kept whole.are refl (λ other apart. refl) here
 
@@ -153,20 +153,20 @@ module _ (before : World) (came : ℕ) (whole : IsWhole before)
         line = line (port_state port);
       } ∷ []
       → Came before after (record {
-        state = record (state_of before) {
+        state = record (world_state before) {
           ports = slice_set (map port_state before.ports.items) came
-              (change (port_in (state_of before) came));
+              (change (port_in (world_state before) came));
         };
         entries = record {
           turn = before.shared;
           port = came;
-          line = line (port_in (state_of before) came);
+          line = line (port_in (world_state before) came);
         } ∷ [];
       })
   came_at_port after change line ports kept turns records state here told =
       came_there before after before.durable _ before.shared before.commits _ kept
       (ap (map port_state) ports ∙ ports_with change state) turns records
       (told_as before after.entries before.shared came line (port_state port)
-      (port_in (state_of before) came) told
+      (port_in (world_state before) came) told
       (sym (port_is before came whole may place port at read)))
       (whole_as_before after ports kept here)

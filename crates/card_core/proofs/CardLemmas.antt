@@ -21,7 +21,7 @@ use Rattle.card_core.specs.Port.{blank_content, content_on}
 use Rattle.card_core.specs.World.{card_on}
 
 -- a blank card may be held
-blank_valid : IsValid blank_content
+pub blank_valid : IsValid blank_content
 blank_valid = record {
   quota = omega arith;
   few_pins = omega arith;

@@ -1,5 +1,5 @@
 -- What comes to a port is one step of the card that stands there.
-use Rattle.std.proofs.Common.{◌≡◌, ◌<◌, ℕ, zero, suc, false, List, length, replicate}
+use Rattle.std.proofs.Common.{◌≡◌, ◌≢◌, ◌<◌, ℕ, List, length}
 use Rattle.std.proofs.Common.{Option, Some, None, Ok, refl, ◌∙◌, ap, arith, inl}
 use Rattle.std.proofs.Common.{length-set}
 use Rattle.std.proofs.lemmas.List.{get_or-set_same}
@@ -14,15 +14,16 @@ use Rattle.profile_card.specs.Commands.{decision}
 use Rattle.profile_card.specs.Step.{Steps, silent}
 use Rattle.profile_card.specs.Step.Event.{Command, Power as PowerCycle, Reset as Restart}
 use Rattle.record_codec.specs.Apply.{apply}
+use Rattle.record_codec.specs.IsDurable.{IsDurable}
 use Rattle.record_codec.specs.declared.durable.Durable.{Durable}
 use Rattle.record_codec.specs.declared.durable.Heads.{Heads}
 use Rattle.record_codec.specs.declared.record.Record.TheVariants as records
 use Rattle.uicc_channels.specs.CarriesOut.{content_after}
 use Rattle.uicc_channels.specs.CommandOutcome.{CommandOutcome}
-use Rattle.uicc_channels.specs.Session.{fresh_session}
-use Rattle.uicc_channels.specs.declared.session.Session.{Session}
 use Rattle.card_core.proofs.PortLemmas.{made_here, none_changes}
-use Rattle.card_core.proofs.StayLemmas.{heads_where}
+use Rattle.card_core.proofs.SeenLemmas.{fresh_at}
+use Rattle.card_core.proofs.StayLemmas.{content_elsewhere, heads_where, other_port}
+use Rattle.card_core.proofs.WholeLemmas.{card_stays}
 use Rattle.card_core.specs.ManageLsi.{counted_at, lsi_reset}
 use Rattle.card_core.specs.OwnCommand.{changed_where, own_made, port_after}
 use Rattle.card_core.specs.Port.{content_on, profile_on, with_change_of}
@@ -40,14 +41,14 @@ module _ (durable : Durable) (port : ℕ) where
       made_here {X = Unit {0}} {Y = Unit {0}} durable
       (apply durable (records.Content profile change)) port profile change on (Ok tt) fits refl
 
-  content_here : (change : Option Change) → IfSome change (Fits (content_on durable port))
+  pub content_here : (change : Option Change) → IfSome change (Fits (content_on durable port))
       → content_on (changed_where durable port change) port
       ≡ content_after (content_on durable port) change
   content_here None fits = refl
   content_here (Some change) fits = by_profile change fits (profile_on durable port) refl
 
 -- the port that was put
-there : (ports : List PortState) (port : ℕ) (put : PortState) → port < length ports
+pub there : (ports : List PortState) (port : ℕ) (put : PortState) → port < length ports
     → slice_index_or (slice_set ports port put) port fresh_port ≡ put
 there ports port put below = get_or-set_same ports port put fresh_port below
 
@@ -109,15 +110,20 @@ module _ (state : WorldState) (port : ℕ) (below : port < length state.ports) w
       (there (counted_at state came).ports port
       (reset_port None (port_in (counted_at state came) port)) within)
 
-fresh_at : (count port : ℕ)
-    → (slice_index_or (replicate count fresh_port) port fresh_port).session
-    ≡ fresh_session false None
-fresh_at zero port = refl
-fresh_at (suc count) zero = refl
-fresh_at (suc count) (suc port) = fresh_at count port
+-- a command that the card of one port answers leaves the card at another
+pub own_elsewhere : (state : WorldState) (port other : ℕ) (c : Apdu) → IsDurable state.durable
+    → other ≢ port → card_in (own_made state port c).state other ≡ card_in state other
+own_elsewhere state port other c are apart =
+    let change : Option Change = (decision (card_in state port) c).change in
+    ap (λ (its : PortState). card_on (changed_where state.durable port change) other its.session)
+    (other_port state.ports port other
+    (port_after (port_in state port) c (decision (card_in state port) c)) apart)
+    ∙ card_stays state.durable (changed_where state.durable port change) other
+    (port_in state other).session (heads_where state.durable port change)
+    (content_elsewhere state.durable are port change other apart)
 
 pub power_steps : (state : WorldState) (port : ℕ)
     → Steps (card_in state port) PowerCycle (silent (card_in (opened state.durable) port))
 power_steps state port =
-    ap (λ (its : Session). silent (card_on state.durable port its))
+    ap (λ (its : PortState). silent (card_on state.durable port its.session))
     (fresh_at state.durable.heads.ports.count port)

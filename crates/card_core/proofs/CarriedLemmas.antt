@@ -28,6 +28,7 @@ use Rattle.port_table.specs.PortOf.{port_of}
 use Rattle.port_table.specs.Target.{target_port}
 use Rattle.port_table.specs.declared.ports.Ports.{Ports}
 use Rattle.port_table.specs.declared.target.TargetFault.{TargetFault}
+use Rattle.record_codec.specs.FitsCard.{FitsCard}
 use Rattle.record_codec.specs.IsDurable.{IsDurable}
 use Rattle.record_codec.specs.Noted.{count_of, count_of_each, count_where}
 use Rattle.record_codec.specs.declared.durable.Durable.{Durable}
@@ -124,17 +125,18 @@ module _ (heads : Heads) (busy : List Bool) where
   kind_of came (requests.NoteSent number) =
       sent number (list_any (λ note. nat_eq note.number number) heads.notes.list)
 
--- just the ports that move have changed, and the record is one of a request
+-- just the ports that move have changed, and the record is one of a request, which fits the card
 pub record IsCarried (durable : Durable) (entry : Option Record) (moving : List Move)
     : Type 0 where
   pub moves : AreMoves durable.heads.ports (recorded durable entry).heads.ports moving
   pub kind : IfSome entry IsOfRequest
+  pub fits : IfSome entry (FitsCard durable)
 
 quiet : (ports : Ports) → AreMoves ports ports []
 quiet ports = record { each = tt; once = tt; others = λ port unmoved. refl }
 
 nothing : (durable : Durable) → IsCarried durable None []
-nothing durable = record { moves = quiet durable.heads.ports; kind = tt }
+nothing durable = record { moves = quiet durable.heads.ports; kind = tt; fits = tt }
 
 module _ (durable : Durable) (are : IsDurable durable) (busy : List Bool) (port : ℕ)
     (below : port < durable.heads.ports.count) where
@@ -153,6 +155,7 @@ module _ (durable : Durable) (are : IsDurable durable) (busy : List Bool) (port 
             (subst (λ (its : List Move). AreMoves durable.heads.ports durable.heads.ports its)
             (sym (managed_quiet durable.heads busy port request is)) (quiet durable.heads.ports));
         kind = kind_of durable.heads busy port request;
+        fits = subst (λ (its : Option Record). IfSome its (FitsCard durable)) (sym is) tt;
       }
       by (Some entry) is = record {
         moves = subst (λ (its : Option Record). AreMoves durable.heads.ports
@@ -161,6 +164,9 @@ module _ (durable : Durable) (are : IsDurable durable) (busy : List Bool) (port 
             (managed_carries durable are busy entry port request
             (record { card = are; below = below; nickname = short }) is).moves;
         kind = kind_of durable.heads busy port request;
+        fits = subst (λ (its : Option Record). IfSome its (FitsCard durable)) (sym is)
+            (managed_carries durable are busy entry port request
+            (record { card = are; below = below; nickname = short }) is).fits;
       }
 
   pub desk_carried : (desk : Desk) (c : Apdu) → let outcome = desk_outcome desk durable.heads busy

@@ -81,7 +81,7 @@ module _ (durable : Durable) (are : IsDurable durable) where
   unchanged : LeavesPorts durable
   unchanged = (refl, λ port. refl)
 
-  put_leaves : (head : ProfileHead) (content : Content)
+  pub put_leaves : (head : ProfileHead) (content : Content)
       → LeavesPorts (apply durable (records.PutProfile true (installed durable head content) None))
   put_leaves head content = (refl, λ port. by port (profile_on durable port) refl)
     where

@@ -1,5 +1,5 @@
 -- The content of a profile on no port stays until a request deletes it.
-use Rattle.std.proofs.Common.{◌≡◌, ◌≢◌, ◌<◌, ◌+◌, ◌⊎◌, ℕ, Bool, true, false, nat_eq, cond, arith, List, [], ◌∷◌}
+use Rattle.std.proofs.Common.{◌≡◌, ◌≢◌, ◌≤◌, ◌<◌, ◌+◌, ◌⊎◌, ℕ, Bool, true, false, nat_eq, cond, arith, List, [], ◌∷◌}
 use Rattle.std.proofs.Common.{Option, Some, None, Result, Ok, Err, refl, sym, ◌∙◌, subst, inl, inr}
 use Rattle.std.proofs.lemmas.Bool.{true≢false}
 use Rattle.std.specs.List.{AllByRecursion}
@@ -44,20 +44,24 @@ use Rattle.card_core.specs.declared.event.Event.TheVariants as events
 use Rattle.card_core.specs.declared.event.LoadStep.{LoadStep}
 use Rattle.card_core.specs.declared.event.LoadStep.TheVariants as steps
 
--- no profile has the next number
-apart : (next : ℕ) (profiles : List ProfileHead)
-    → AllByRecursion (λ head. head.number < next) profiles
-    → AllByRecursion (λ (head : ProfileHead). head.number ≡ next → ⊥) profiles
-apart next [] below = tt
-apart next (head ∷ profiles) below = (
-  λ same. let less : head.number < next = below.0 in omega (arith, less, same),
-  apart next profiles below.1,
-)
+-- a number that is held is below the next one
+pub held_below : (profile next : ℕ) (profiles : List ProfileHead)
+    → AllByRecursion (λ head. head.number < next) profiles → IsHeld profile profiles
+    → next ≤ profile → ⊥
+held_below profile next profiles below held low =
+    any_of_none (λ (head : ProfileHead). head.number ≡ profile) profiles (each profiles below) held
+  where
+    each : (heads : List ProfileHead) → AllByRecursion (λ head. head.number < next) heads
+        → AllByRecursion (λ (head : ProfileHead). head.number ≡ profile → ⊥) heads
+    each [] all = tt
+    each (head ∷ heads) all = (
+      λ same. let less : head.number < next = all.0 in omega (arith, less, same, low),
+      each heads all.1,
+    )
 
 pub not_next : (next : ℕ) (profiles : List ProfileHead)
     → AllByRecursion (λ head. head.number < next) profiles → IsHeld next profiles → ⊥
-not_next next profiles below =
-    any_of_none (λ (head : ProfileHead). head.number ≡ next) profiles (apart next profiles below)
+not_next next profiles below held = held_below next next profiles below held (omega arith)
 
 module _ (durable : Durable) (are : IsDurable durable) (profile : ℕ)
     (held : IsHeld profile durable.heads.profiles) where

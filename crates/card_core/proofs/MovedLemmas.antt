@@ -113,7 +113,7 @@ module _ (durable : Durable) (are : IsDurable durable) (profile port : ℕ) wher
       contents_stay durable entry profile are.contents.pairs (untouched entry kind after on)
 
 -- no move is at the port
-none_at : (moves : List Move) (port : ℕ) → move_at moves port ≡ None
+pub none_at : (moves : List Move) (port : ℕ) → move_at moves port ≡ None
     → AllByRecursion (λ (move : Move). move.port ≢ port) moves
 none_at [] port none = tt
 none_at (move ∷ moves) port none =
@@ -146,7 +146,7 @@ module _ (durable : Durable) (are : IsDurable durable) (entry : Option Record)
     (moves : List Move) (carried : IsCarried durable entry moves)
     (after : IsDurable (recorded durable entry)) where
   -- a port that doesn't move has the content that it had
-  content_at_unmoved : (port : ℕ) → move_at moves port ≡ None
+  pub content_at_unmoved : (port : ℕ) → move_at moves port ≡ None
       → content_on (recorded durable entry) port ≡ content_on durable port
   content_at_unmoved port none =
       ap (content_held (recorded durable entry)) (sym there)
@@ -165,7 +165,7 @@ module _ (durable : Durable) (are : IsDurable durable) (entry : Option Record)
           (held_stays durable are profile port entry carried.kind after
           (stands (recorded durable entry).heads.ports.on port profile (sym there ∙ is)))
 
-  card_at_unmoved : (port : ℕ) (session : Session) → move_at moves port ≡ None
+  pub card_at_unmoved : (port : ℕ) (session : Session) → move_at moves port ≡ None
       → card_on (recorded durable entry) port session ≡ card_on durable port session
   card_at_unmoved port session none =
       ap (λ (its : Content). record {

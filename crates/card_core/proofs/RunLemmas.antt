@@ -16,7 +16,7 @@ use Rattle.card_core.specs.OwnCommand.{own_made}
 use Rattle.card_core.specs.PortState.{PortState}
 use Rattle.card_core.specs.Run.{IsOnCard, package_bytes}
 use Rattle.card_core.specs.Statements.{Makes, MakesAll, command_made}
-use Rattle.card_core.specs.Whole.{IsWhole, state_of}
+use Rattle.card_core.specs.Whole.{IsWholeCard, world_state}
 use Rattle.card_core.specs.World.{Made, WorldState, port_in}
 use Rattle.card_core.specs.declared.entry.Entry.{Entry}
 use Rattle.card_core.specs.declared.event.Event.{Event}
@@ -60,8 +60,8 @@ makes_one_more state (first ∷ events) entries now event made all makes = (
 )
 
 -- the ports of a card are as many as it says
-pub ports_are : (world : World) → IsWhole world
-    → length (state_of world).ports ≡ world.durable.heads.ports.count
+pub ports_are : (world : World) → IsWholeCard world
+    → length (world_state world).ports ≡ world.durable.heads.ports.count
 ports_are world whole = length-map world.ports.items port_state ∙ whole.at.count
 
 -- the next event of a list

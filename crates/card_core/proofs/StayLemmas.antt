@@ -47,7 +47,7 @@ module _ (durable : Durable) (are : IsDurable durable) (port : ℕ) where
   held_elsewhere (Some change) profile apart =
       held_by change profile apart (profile_on durable port) refl
 
-heads_by : (durable : Durable) (change : Change) (on : Option ℕ)
+pub heads_by : (durable : Durable) (change : Change) (on : Option ℕ)
     → (with_change_of on change durable).heads ≡ durable.heads
 heads_by durable change None = refl
 heads_by durable change (Some profile) = refl

@@ -54,7 +54,7 @@ all_fresh : (count bytes places : ℕ)
 all_fresh count bytes zero = tt
 all_fresh count bytes (suc places) = (fresh_within count bytes, all_fresh count bytes places)
 
-length_fresh : (places : ℕ) (port : PortState) → length (replicate places port) ≡ places
+pub length_fresh : (places : ℕ) (port : PortState) → length (replicate places port) ≡ places
 length_fresh zero port = refl
 length_fresh (suc places) port = ap suc (length_fresh places port)
 
@@ -86,7 +86,7 @@ each_within count bytes change number (port ∷ ports) stays each = (
   each_within count bytes change (number + 1) ports stays each.1,
 )
 
-length_each : (change : ℕ → PortState → PortState) (number : ℕ) (ports : List PortState)
+pub length_each : (change : ℕ → PortState → PortState) (number : ℕ) (ports : List PortState)
     → length (at_each change number ports) ≡ length ports
 length_each change number [] = refl
 length_each change number (port ∷ ports) = ap suc (length_each change (number + 1) ports)

@@ -1,156 +1,72 @@
--- A card that holds one profile alone, and what a whole card gives it and tells of it.
-use Rattle.std.specs.Prelude.{ℕ, ◌≡◌, ◌⊎◌, ◌==◌, if◌then◌else◌, List, [], ◌∷◌, ◌++◌, Option, Some}
-use Rattle.std.specs.Prelude.{None, Result, Ok, Err}
-use Rattle.std.specs.List.{flat_map}
-use Rattle.apdu_codec.specs.Command.{Apdu, Spells}
+-- A card that holds one profile alone, given what a whole card gives the profile.
+use Rattle.std.specs.Prelude.{ℕ, ◌≡◌, ◌≢◌, ◌⊎◌, List, [], ◌∷◌, ◌++◌, Option, Some, None}
+use Rattle.std.specs.List.{AllByRecursion, flat_map}
 use Rattle.apdu_codec.specs.declared.answers.Answer.{Answer}
-use Rattle.apdu_codec.specs.declared.status.Sw.{Sw}
-use Rattle.lsi_refresh.specs.Lsi.{lsi_of}
-use Rattle.lsi_refresh.specs.declared.lsi.Lsi.{Lsi}
-use Rattle.lsi_refresh.specs.declared.lsi.Lsi.TheVariants as lsi
+use Rattle.file_rows.specs.declared.content.Content.{Content}
 use Rattle.profile_card.specs.Card.{Card}
-use Rattle.profile_card.specs.Own.{is_common}
 use Rattle.profile_card.specs.Step.{Event as CardEvent, Outcome, Steps}
-use Rattle.profile_card.specs.Step.Event.{Bound as BoundTo, Command, Power as PowerCycle}
-use Rattle.profile_card.specs.Step.Event.{Reset as Restart, Unbound as Freed}
+use Rattle.record_codec.specs.Heads.{held_content}
 use Rattle.card_core.specs.Port.{profile_on}
-use Rattle.card_core.specs.Statements.{Makes}
-use Rattle.card_core.specs.World.{Made, WorldState, port_in}
+use Rattle.card_core.specs.Share.{AreShares, Share}
+use Rattle.card_core.specs.Stepped.{AreSteps, NotFailed, Stepped}
+use Rattle.card_core.specs.World.{WorldState, card_in}
 use Rattle.card_core.specs.declared.entry.Entry.{Entry}
-use Rattle.card_core.specs.declared.entry.Line.{Line}
-use Rattle.card_core.specs.declared.entry.Line.TheVariants as lines
 use Rattle.card_core.specs.declared.event.Event.{Event}
-use Rattle.card_core.specs.declared.event.Event.TheVariants as events
-
--- one event, the card to which it came, and what it made of it
-pub record Stepped : Type 0 where
-  pub before : WorldState
-  pub event : Event
-  pub made : Made
-
--- the events came to the card in these steps, one after another, and took it to this one
-abbrev pub AreSteps : WorldState → List Event → List Stepped → WorldState → Type 0
-AreSteps state [] steps after = (steps ≡ []) × (after ≡ state)
-AreSteps state (event ∷ events) steps after =
-    (made : Made) × (rest : List Stepped) × Makes state event made
-    × AreSteps made.state events rest after
-    × (steps ≡ record { before = state; event = event; made = made } ∷ rest)
-
--- whether that profile stands on a port
-abbrev pub stands_at : ℕ → Option ℕ → Option ℕ → List CardEvent → List CardEvent
-stands_at profile None port given = []
-stands_at profile (Some other) port given = if other == profile then given else []
-
--- what a line of the log gives the card of a profile alone, which stands there or not: a reset of
--- its port from anywhere, that it leaves a port, and that it comes to one
-abbrev pub given_by_line : ℕ → Option ℕ → ℕ → Line → List CardEvent
-given_by_line profile on port (lines.Answered number answer cause) = []
-given_by_line profile on port (lines.OwnReset number) =
-    stands_at profile on (Some port) (Restart ∷ [])
-given_by_line profile on port (lines.Loaded number outcome) = []
-given_by_line profile on port (lines.ForeignReset by) =
-    stands_at profile on (Some port) (Restart ∷ [])
-given_by_line profile on port (lines.Unbound other refresh kept by commit) =
-    if other == profile then Freed ∷ [] else []
-given_by_line profile on port (lines.Bound other refresh kept by commit) =
-    if other == profile then BoundTo port refresh kept ∷ [] else []
-
-abbrev pub given_by_entry : ℕ → WorldState → Entry → List CardEvent
-given_by_entry profile before entry =
-    given_by_line profile (profile_on before.durable entry.port) entry.port entry.line
-
-abbrev pub given_by_lines : ℕ → Stepped → List CardEvent
-given_by_lines profile step =
-    flat_map (given_by_entry profile step.before) step.made.entries
-
--- a MANAGE LSI that resets its own port has no line beside its answer
-abbrev pub given_by_lsi : ℕ → Result Lsi Sw → List CardEvent
-given_by_lsi came (Ok lsi.Count) = []
-given_by_lsi came (Ok (lsi.Reset port)) = if port == came then Restart ∷ [] else []
-given_by_lsi came (Err sw) = []
-
--- the answer of a statement
-abbrev pub answer_of_line : Line → List Answer
-answer_of_line (lines.Answered number answer cause) = answer ∷ []
-answer_of_line (lines.OwnReset number) = []
-answer_of_line (lines.Loaded number outcome) = []
-answer_of_line (lines.ForeignReset by) = []
-answer_of_line (lines.Unbound other refresh kept by commit) = []
-answer_of_line (lines.Bound other refresh kept by commit) = []
-
-abbrev pub answers_in : List Entry → List Answer
-answers_in entries = flat_map (λ entry. answer_of_line entry.line) entries
-
--- what a profile's card is given, and the answers that count as its own
-pub record Share : Type 0 where
-  pub given : List CardEvent
-  pub answers : List Answer
-
-abbrev pub no_share : Share
-no_share = record { given = []; answers = [] }
-
-abbrev pub joined_share : Share → Share → Share
-joined_share one other = record {
-  given = one.given ++ other.given;
-  answers = one.answers ++ other.answers;
-}
-
--- bytes at the port of the profile are its own command unless the common part of the card answers
--- them
-abbrev pub command_share : Stepped → ℕ → List ℕ → Apdu → Share
-command_share step port bytes c =
-    if is_common (port_in step.before port).session c
-    then record {
-      given = if c.ins == 0x7A
-          then given_by_lsi port (lsi_of c step.before.durable.heads.ports.count) else [];
-      answers = [];
-    }
-    else record { given = Command bytes ∷ []; answers = answers_in step.made.entries }
-
-abbrev pub IsBytesShare : Stepped → ℕ → List ℕ → Share → Type 0
-IsBytesShare step port bytes share =
-    ((c : Apdu) × Spells bytes c × (share ≡ command_share step port bytes c))
-    ⊎ (((c : Apdu) → ¬ Spells bytes c) × (share
-    ≡ record { given = Command bytes ∷ []; answers = answers_in step.made.entries }))
-
--- what comes to another port is none of the profile's
-abbrev pub IsShareAt : ℕ → Option ℕ → Stepped → ℕ → List ℕ → Share → Type 0
-IsShareAt profile None step port bytes share = share ≡ no_share
-IsShareAt profile (Some other) step port bytes share =
-    ((other ≡ profile) × IsBytesShare step port bytes share)
-    ⊎ ((other ≡ profile → ⊥) × (share ≡ no_share))
-
--- a power cycle comes to each profile
-abbrev pub IsOwnShare : ℕ → Stepped → Event → Share → Type 0
-IsOwnShare profile step (events.Apdu port bytes) share =
-    IsShareAt profile (profile_on step.before.durable port) step port bytes share
-IsOwnShare profile step (events.Reset port) share = share ≡ no_share
-IsOwnShare profile step (events.Load port its) share = share ≡ no_share
-IsOwnShare profile step events.Power share =
-    share ≡ record { given = PowerCycle ∷ []; answers = [] }
-
--- the share of a profile in a step: what came to its port, and then what the lines of the log tell
-abbrev pub IsShare : ℕ → Stepped → Share → Type 0
-IsShare profile step share =
-    (own : Share) × IsOwnShare profile step step.event own
-    × (share ≡ joined_share own
-    (record { given = given_by_lines profile step; answers = [] }))
-
--- its share in a run
-abbrev pub AreShares : ℕ → List Stepped → Share → Type 0
-AreShares profile [] share = share ≡ no_share
-AreShares profile (step ∷ steps) share =
-    (first : Share) × (rest : Share) × IsShare profile step first × AreShares profile steps rest
-    × (share ≡ joined_share first rest)
 
 abbrev pub answer_list : Option Answer → List Answer
 answer_list None = []
 answer_list (Some answer) = answer ∷ []
 
--- the card of one profile alone, given these events, answers so
-abbrev pub AnswersAlone : Card → List CardEvent → List Answer → Type 0
-AnswersAlone card [] answers = answers ≡ []
-AnswersAlone card (event ∷ events) answers =
+-- the card of one profile alone, given these events, gives these answers and comes to this
+abbrev pub RunsAlone : Card → List CardEvent → List Answer → Card → Type 0
+RunsAlone card [] answers after = (answers ≡ []) × (after ≡ card)
+RunsAlone card (event ∷ events) answers after =
     (outcome : Outcome) × (rest : List Answer) × Steps card event outcome
-    × AnswersAlone outcome.card events rest
+    × RunsAlone outcome.card events rest after
     × (answers ≡ answer_list outcome.answer ++ rest)
+
+-- the card of a profile that stands on no port has no port, and its content where it is held
+pub record IsOnNoPort (profile : ℕ) (state : WorldState) (card : Card) : Type 0 where
+  pub nowhere : (port : ℕ) → profile_on state.durable port ≢ Some profile
+  pub port : card.port ≡ None
+  pub mode : card.mode ≡ state.durable.heads.ports.mode
+  pub content : (content : Content) → held_content profile state.durable ≡ Some content
+      → card.content ≡ content
+
+-- the card of a profile alone, by a whole card: where the profile stands on a port it is the card
+-- there
+abbrev pub IsCardOf : ℕ → WorldState → Card → Type 0
+IsCardOf profile state card =
+    ((port : ℕ) × (profile_on state.durable port ≡ Some profile) × (card ≡ card_in state port))
+    ⊎ IsOnNoPort profile state card
+
+-- where the step installs the profile, it is with that content
+abbrev pub InstallsWith : ℕ → Content → Stepped → Type 0
+InstallsWith profile content step =
+    (its : Content) → held_content profile step.before.durable ≡ None
+    → held_content profile step.made.state.durable ≡ Some its → content ≡ its
+
+-- the card of a profile alone at the start of a run; where the run installs the profile, that card
+-- has the content with which it comes, and no port
+pub record StartsAlone (profile : ℕ) (start : WorldState) (steps : List Stepped) (card : Card)
+    : Type 0 where
+  pub its : IsCardOf profile start card
+  pub installed : held_content profile start.durable ≡ None
+      → AllByRecursion (InstallsWith profile card.content) steps
+
+-- in a run a profile's own commands were answered as its card alone answers them, given the same
+-- commands and what else came to the profile, and that card came to be the profile's
+abbrev pub IsAnsweredAlone : ℕ → WorldState → List Stepped → WorldState → Type 0
+IsAnsweredAlone profile start steps after =
+    (card : Card) → StartsAlone profile start steps card
+    → (share : Share) × (now : Card) × AreShares profile steps share
+    × RunsAlone card share.given share.answers now × IsCardOf profile after now
+
+-- a run of a card that made these lines, in which each profile is answered so
+pub record AnswersEachAlone (start : WorldState) (events : List Event) (entries : List Entry)
+    (after : WorldState) : Type 0 where
+  pub steps : List Stepped
+  pub came : AreSteps start events steps after
+  pub made : AllByRecursion NotFailed steps
+  pub lines : entries ≡ flat_map (λ step. step.made.entries) steps
+  pub alone : (profile : ℕ) → IsAnsweredAlone profile start steps after

@@ -1,8 +1,8 @@
 -- What a statement leaves for which memory was wanting or whose record wasn't stored. What the card
 -- keeps and its sessions are as before, and no other port has a line.
-use Rattle.std.specs.Prelude.{ℕ, ◌+◌, ◌&&◌, [], ◌∷◌, Option, None, option_map}
+use Rattle.std.specs.Prelude.{ℕ, ◌≡◌, ◌+◌, ◌&&◌, [], ◌∷◌, Option, None, option_map}
 use Rattle.std.specs.Prelude.{if◌then◌else◌}
-use Rattle.apdu_codec.specs.Command.{Apdu}
+use Rattle.apdu_codec.specs.Command.{Apdu, Spells}
 use Rattle.apdu_codec.specs.declared.answers.Answer.{Answer}
 use Rattle.profile_card.specs.Own.{is_common}
 use Rattle.card_core.specs.Desk.{failed_desk}
@@ -16,6 +16,10 @@ use Rattle.card_core.specs.declared.entry.Cause.{Cause}
 use Rattle.card_core.specs.declared.entry.Line.TheVariants.{Answered}
 use Rattle.card_core.specs.declared.entry.Loading.{Loading}
 use Rattle.card_core.specs.declared.entry.Loading.TheVariants.{Memory}
+use Rattle.card_core.specs.declared.event.Event.{Event}
+use Rattle.card_core.specs.declared.event.Event.TheVariants.{Apdu as Bytes, Load, Power, Reset}
+use Rattle.card_core.specs.declared.event.LoadStep.{LoadStep}
+use Rattle.card_core.specs.declared.event.LoadStep.TheVariants.{Begin, End, Piece}
 
 -- what a command for the ISD-R fed is dropped, and a command of the card leaves the desk alone
 abbrev pub failed_port : PortState → Apdu → PortState
@@ -52,3 +56,19 @@ failed_piece state port = load_step state port (record {
 -- the end of a load takes it away all the same
 abbrev pub failed_end : WorldState → ℕ → Loading → Made
 failed_end state port outcome = end_made state port (ends_with state.durable outcome)
+
+abbrev pub FailsLoadWith : WorldState → ℕ → LoadStep → Made → Type 0
+FailsLoadWith state port (Begin metadata) made = made ≡ failed_begin state port
+FailsLoadWith state port (Piece piece) made = made ≡ failed_piece state port
+FailsLoadWith state port End made =
+    (outcome : Loading) × (made ≡ failed_end state port outcome)
+
+-- a command and a step of a load may fail; a reset and a power cycle want no memory and make no
+-- record
+abbrev pub FailsWith : WorldState → Event → Made → Type 0
+FailsWith state (Bytes port bytes) made =
+    (c : Apdu) × (answer : Answer) × (cause : Option Cause) × Spells bytes c
+    × (made ≡ failed_command state port c answer cause)
+FailsWith state (Reset port) made = ⊥
+FailsWith state (Load port step) made = FailsLoadWith state port step made
+FailsWith state Power made = ⊥

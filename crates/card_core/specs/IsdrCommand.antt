@@ -1,6 +1,7 @@
 -- STORE DATA and GET RESPONSE on a channel where the ISD-R is selected.
 use Rattle.std.specs.Prelude.{ℕ, ◌+◌, ◌==◌, Bool, true, false, if◌then◌else◌, List, []}
-use Rattle.std.specs.Prelude.{◌∷◌, ◌++◌, find, map, slice_index_or, slice_set, Option, Some, None, is_some}
+use Rattle.std.specs.Prelude.{◌∷◌, ◌++◌, find, map, slice_index_or, slice_set, Option, Some, None}
+use Rattle.std.specs.Prelude.{is_some}
 use Rattle.std.specs.List.{flat_map}
 use Rattle.apdu_codec.specs.Command.{Apdu}
 use Rattle.isdr_commands.specs.declared.moves.Move.{Move}
@@ -40,7 +41,8 @@ move_at moves port = find (λ move. move.port == port) moves
 abbrev pub kept_on : ℕ → ℕ → ℕ → Option ℕ
 kept_on came channel port = if port == came then Some channel else None
 
--- nothing is under way any more at a port that moves, but on the kept channel, as the request left it
+-- nothing is under way any more at a port that moves, but on the kept channel, as the request left
+-- it
 abbrev pub desk_moved : Option ℕ → Desk → Desk
 desk_moved None desk = empty_desk
 desk_moved (Some channel) desk = desk

@@ -19,7 +19,11 @@ pub mod LoadState
 pub mod Run
 pub mod Statements
 pub mod Failed
+pub mod Stepped
+pub mod Share
 pub mod Alone
+pub mod Sound
+pub mod Stretch
 pub mod Text
 pub mod Whole
 pub mod Laws

@@ -10,8 +10,8 @@ use Rattle.card_core.specs.declared.event.LoadStep.{LoadStep}
 use Rattle.card_core.specs.declared.event.LoadStep.TheVariants.{Begin, End, Piece}
 use Rattle.card_core.specs.declared.world.World.{World}
 
-abbrev pub state_of : World → WorldState
-state_of world = record {
+abbrev pub world_state : World → WorldState
+world_state world = record {
   durable = world.durable;
   ports = map port_state world.ports.items;
   shared = world.shared;
@@ -19,7 +19,7 @@ state_of world = record {
 }
 
 -- what it keeps is a card's, and each of its ports has the card that stands there
-pub record IsWhole (world : World) : Type 0 where
+pub record IsWholeCard (world : World) : Type 0 where
   pub are : IsDurable world.durable
   pub at : AreAtPorts world.durable world.ports.items
 
@@ -45,6 +45,6 @@ IsReadyFor state Power = ⊤
 
 -- a statement took the card there, and its lines stand in the log behind the others
 pub record Came (before after : World) (made : Made) : Type 0 where
-  pub state : state_of after ≡ made.state
+  pub state : world_state after ≡ made.state
   pub entries : after.entries ≡ before.entries ++ made.entries
-  pub whole : IsWhole after
+  pub whole : IsWholeCard after

@@ -14,8 +14,8 @@ use isdr_commands::Moves;
 use record_codec::Durable;
 use std::alloc::Global;
 
-/// What a command for the ISD-R came to: its answer, the ports whose profile it changed, and whether
-/// a record was carried out.
+/// What a command for the ISD-R came to: its answer, the ports whose profile it changed, and
+/// whether a record was carried out.
 #[derive(Debug, Drop)]
 pub struct IsdrAnswer {
     pub answer: Answer,

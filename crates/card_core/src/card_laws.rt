@@ -37,8 +37,8 @@ pub fn resets_stay_at_their_port()
         → card_in (lsi_reset state came port).state other ≡ card_in state other }
 {}
 
-/// The content of a profile that stands on no port stays as it is through each event, as long as the
-/// profile is held: until a request deletes it.
+/// The content of a profile that stands on no port stays as it is through each event, as long as
+/// the profile is held: until a request deletes it.
 pub fn contents_stay_until_they_are_deleted()
     ensures { (state : WorldState) (event : Event) (made : Made) (profile : ℕ)
         → IsDurable state.durable → IsOnCard state.durable.heads.ports.count event
@@ -48,8 +48,8 @@ pub fn contents_stay_until_they_are_deleted()
         ⊎ ¬ IsHeld profile made.state.durable.heads.profiles }
 {}
 
-/// What comes to a port is one step of the card that stands there: a command that it answers itself,
-/// with that answer, a reset of the port from anywhere, and a power cycle.
+/// What comes to a port is one step of the card that stands there: a command that it answers
+/// itself, with that answer, a reset of the port from anywhere, and a power cycle.
 pub fn ports_step_as_their_cards_do()
     ensures own { (state : WorldState) (port : ℕ) (bytes : List ℕ) (c : Apdu)
         → port < length state.ports → IsSound (card_in state port) → Spells bytes c

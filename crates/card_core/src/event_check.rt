@@ -55,8 +55,8 @@ fn bring_few_bytes(events: &[Event]) -> bool
 }
 
 /// Whether these events may come to a card with so many ports, as `pure_run` asks: there are fewer
-/// than 4,294,967,296, they bring fewer bytes of packages than that, and each comes to a port of the
-/// card. It looks at each event once.
+/// than 4,294,967,296, they bring fewer bytes of packages than that, and each comes to a port of
+/// the card. It looks at each event once.
 pub fn may_come(count: u8, events: &[Event]) -> bool
     ensures { IsTrue result ↔ MayCome count events.now }
 {

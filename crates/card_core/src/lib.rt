@@ -1,10 +1,11 @@
 //! The pure core of an eUICC with Multiple Enabled Profiles (GSMA SGP.22): events in, log entries
 //! out. It knows no store, no lock, no thread and no text.
 //!
-//! A `Port` has the card that stands there, its desk, which is what is under way with the ISD-R, and
-//! its load. A `World` is a whole card, and `pure_run` its run over a list of events.
+//! A `Port` has the card that stands there, its desk, which is what is under way with the ISD-R,
+//! and its load. A `World` is a whole card, and `pure_run` its run over a list of events.
 #![tactic(auto)]
 
+mod alone_laws;
 mod answering;
 mod card_laws;
 mod desk;
@@ -24,9 +25,14 @@ mod recording;
 mod run;
 mod script;
 mod store_data;
+mod stretch_laws;
 mod telling;
 mod world;
 
+pub use alone_laws::{
+    cards_stay_sound_with_each_event, profiles_are_answered_as_alone,
+    what_a_profile_is_given_decides_its_answers,
+};
 pub use answering::IsdrAnswer;
 pub use card_laws::{
     contents_stay_until_they_are_deleted, own_commands_stay_at_their_port,
@@ -48,6 +54,10 @@ pub use port_content::{change_content, content_on, profile_on};
 pub use run::pure_run;
 pub use script::{Phase, Script, Section, Statement};
 pub use std::alloc::AllocError as NoMemory;
+pub use stretch_laws::{
+    a_stretch_runs_port_by_port, neighbours_may_change_places,
+    unshared_statements_look_at_their_port, unshared_statements_stay_at_their_port,
+};
 pub use world::World;
 
 #[cfg(test)]

@@ -7,8 +7,8 @@ ghost use Rattle.isdr_commands.specs.Request.{answer_to, managed};
 ghost use Rattle.card_core.specs.Carried.{SendsWhatIsLeft, decided_outcome, replying};
 ghost use Rattle.card_core.specs.DeskOutcome.{dropped, desk_refusal};
 ghost use Rattle.card_core.specs.StoreData.{block_refusal, bytes_before, bytes_with, collected};
-ghost use Rattle.card_core.specs.StoreData.{store_form_refusal, replied, requested, store_data, taken};
-ghost use Rattle.card_core.specs.StoreData.{with_block};
+ghost use Rattle.card_core.specs.StoreData.{store_form_refusal, replied, requested, store_data};
+ghost use Rattle.card_core.specs.StoreData.{taken, with_block};
 
 use crate::desk_decision::{DeskDecision, ExchangeChange};
 use crate::giving::{count_given, from_front};

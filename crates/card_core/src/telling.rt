@@ -9,8 +9,8 @@ use crate::{Entry, Line, Maker, NoMemory};
 use isdr_commands::Move;
 use plain_lists::LongList;
 
-/// How the lines about the moves of a request tell of them: after so many shared statements, by this
-/// statement, which came on that channel and whose record has this number.
+/// How the lines about the moves of a request tell of them: after so many shared statements, by
+/// this statement, which came on that channel and whose record has this number.
 #[derive(Clone, Copy, Debug)]
 pub struct Telling {
     pub turn: u32,

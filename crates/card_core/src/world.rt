@@ -10,7 +10,7 @@ ghost use Rattle.std.specs.Prelude.{◌≡◌, ◌++◌, ◌∷◌, [], map, rep
 ghost use Rattle.record_codec.specs.IsDurable.{IsDurable};
 ghost use Rattle.card_core.specs.AtPort.{AreAtPorts, port_state};
 ghost use Rattle.card_core.specs.PortState.{fresh_port};
-ghost use Rattle.card_core.specs.Whole.{IsWhole, state_of};
+ghost use Rattle.card_core.specs.Whole.{IsWholeCard, world_state};
 ghost use Rattle.card_core.specs.World.{count_if, entry_at, opened};
 
 use crate::{Entry, Line, NoMemory, Port};
@@ -57,8 +57,8 @@ impl World {
     /// empty. It copies what the card keeps, and the content at each port once more.
     pub fn open(alloc: Global, start: &Durable) -> Result<Self, NoMemory>
         requires { IsDurable start.now }
-        ensures state { IfOk result (λ world. state_of world ≡ opened start.now) }
-        ensures whole { IfOk result IsWhole }
+        ensures state { IfOk result (λ world. world_state world ≡ opened start.now) }
+        ensures whole { IfOk result IsWholeCard }
         ensures entries { IfOk result (λ world. world.entries ≡ []) }
     {
         let durable = start.copy()?;
@@ -89,7 +89,7 @@ impl World {
     // Adds a line about a port to the log.
     fn tell(&mut self, port: u8, line: Line) -> Result<(), NoMemory>
         ensures entries { OnOk result (self.new.entries
-            ≡ self.old.entries ++ entry_at (state_of self.old) port line ∷ []) }
+            ≡ self.old.entries ++ entry_at (world_state self.old) port line ∷ []) }
         ensures durable { self.new.durable ≡ self.old.durable }
         ensures ports { self.new.ports ≡ self.old.ports }
         ensures shared { self.new.shared ≡ self.old.shared }

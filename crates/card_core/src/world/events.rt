@@ -2,8 +2,8 @@
 ghost use Rattle.std.specs.Prelude.{◌≡◌, OnOk};
 ghost use Rattle.apdu_codec.specs.Command.{IsCommand, apdu_of};
 ghost use Rattle.card_core.specs.Statements.{AnswersBytes, Makes, MakesLoadStep, command_made};
-ghost use Rattle.card_core.specs.Whole.{Came, IsReadyFor, IsReadyForStep, IsWhole, MayGoOn};
-ghost use Rattle.card_core.specs.Whole.{state_of};
+ghost use Rattle.card_core.specs.Whole.{Came, IsReadyFor, IsReadyForStep, IsWholeCard, MayGoOn};
+ghost use Rattle.card_core.specs.Whole.{world_state};
 ghost use Rattle.card_core.specs.World.{Made};
 
 use super::World;
@@ -14,11 +14,11 @@ use std::alloc::Global;
 impl World {
     // A command at a port.
     fn command(&mut self, alloc: Global, came: u8, command: &Command) -> Result<(), NoMemory>
-        requires whole { IsWhole self.old }
-        requires may { MayGoOn (state_of self.old) came }
+        requires whole { IsWholeCard self.old }
+        requires may { MayGoOn (world_state self.old) came }
         requires command { IsCommand command.now }
         ensures { OnOk result (Came self.old self.new
-            (command_made (state_of self.old) came (apdu_of command.now))) }
+            (command_made (world_state self.old) came (apdu_of command.now))) }
     {
         if !self.ports[usize::from(came)].is_common(command) {
             return self.own(came, command);
@@ -32,10 +32,10 @@ impl World {
 
     // Bytes at a port.
     fn answer_bytes(&mut self, alloc: Global, came: u8, bytes: &[u8]) -> Result<(), NoMemory>
-        requires whole { IsWhole self.old }
-        requires may { MayGoOn (state_of self.old) came }
+        requires whole { IsWholeCard self.old }
+        requires may { MayGoOn (world_state self.old) came }
         ensures { OnOk result ((made : Made)
-            × AnswersBytes (state_of self.old) came bytes.now made
+            × AnswersBytes (world_state self.old) came bytes.now made
             × Came self.old self.new made) }
     {
         match read_command(bytes) {
@@ -46,10 +46,10 @@ impl World {
 
     // A step of a load.
     fn step_load(&mut self, alloc: Global, came: u8, step: &LoadStep) -> Result<(), NoMemory>
-        requires whole { IsWhole self.old }
-        requires ready { IsReadyForStep (state_of self.old) came step.now }
+        requires whole { IsWholeCard self.old }
+        requires ready { IsReadyForStep (world_state self.old) came step.now }
         ensures { OnOk result ((made : Made)
-            × MakesLoadStep (state_of self.old) came step.now made
+            × MakesLoadStep (world_state self.old) came step.now made
             × Came self.old self.new made) }
     {
         match step {
@@ -61,10 +61,10 @@ impl World {
 
     // An event.
     pub fn make(&mut self, alloc: Global, event: &Event) -> Result<(), NoMemory>
-        requires whole { IsWhole self.old }
-        requires ready { IsReadyFor (state_of self.old) event.now }
+        requires whole { IsWholeCard self.old }
+        requires ready { IsReadyFor (world_state self.old) event.now }
         ensures { OnOk result ((made : Made)
-            × Makes (state_of self.old) event.now made × Came self.old self.new made) }
+            × Makes (world_state self.old) event.now made × Came self.old self.new made) }
     {
         match event {
             Event::Apdu { port, bytes } => self.answer_bytes(alloc, *port, bytes.as_slice()),

@@ -3,7 +3,7 @@ ghost use Rattle.std.specs.Prelude.{◌≡◌, ◌<◌, ◌+◌, ◌^◌, map, O
 ghost use Rattle.apdu_codec.specs.Command.{IsCommand, apdu_of};
 ghost use Rattle.card_core.specs.AtPort.{port_state};
 ghost use Rattle.card_core.specs.IsdrCommand.{busy_at, busy_of, isdr_made};
-ghost use Rattle.card_core.specs.Whole.{Came, IsWhole, MayGoOn, state_of};
+ghost use Rattle.card_core.specs.Whole.{Came, IsWholeCard, MayGoOn, world_state};
 
 use super::moving::move_ports;
 use super::{World, count_if};
@@ -46,11 +46,11 @@ impl World {
         came: u8,
         command: &Command,
     ) -> Result<(), NoMemory>
-        requires whole { IsWhole self.old }
-        requires may { MayGoOn (state_of self.old) came }
+        requires whole { IsWholeCard self.old }
+        requires may { MayGoOn (world_state self.old) came }
         requires command { IsCommand command.now }
         ensures { OnOk result (Came self.old self.new
-            (isdr_made (state_of self.old) came (apdu_of command.now))) }
+            (isdr_made (world_state self.old) came (apdu_of command.now))) }
     {
         let busy = busy_of(&self.ports);
         let port = &mut self.ports[usize::from(came)];

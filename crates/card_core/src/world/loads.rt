@@ -1,7 +1,7 @@
 // The steps of loads.
 ghost use Rattle.std.specs.Prelude.{◌≡◌, ◌<◌, ◌^◌, ◌+◌, OnOk};
 ghost use Rattle.card_core.specs.Load.{HasRoomForPiece, MakesEnd, begin_made, piece_made};
-ghost use Rattle.card_core.specs.Whole.{Came, IsWhole, MayGoOn, state_of};
+ghost use Rattle.card_core.specs.Whole.{Came, IsWholeCard, MayGoOn, world_state};
 ghost use Rattle.card_core.specs.World.{Made, port_in};
 
 use super::{World, count_if};
@@ -17,10 +17,10 @@ impl World {
         came: u8,
         metadata: &[u8],
     ) -> Result<(), NoMemory>
-        requires whole { IsWhole self.old }
-        requires may { MayGoOn (state_of self.old) came }
+        requires whole { IsWholeCard self.old }
+        requires may { MayGoOn (world_state self.old) came }
         ensures { OnOk result (Came self.old self.new
-            (begin_made (state_of self.old) came metadata.now)) }
+            (begin_made (world_state self.old) came metadata.now)) }
     {
         let port = &mut self.ports[usize::from(came)];
         let number = port.next_number();
@@ -30,11 +30,11 @@ impl World {
 
     // The next bytes of the package.
     pub(super) fn take_piece(&mut self, came: u8, piece: &[u8]) -> Result<(), NoMemory>
-        requires whole { IsWhole self.old }
-        requires may { MayGoOn (state_of self.old) came }
-        requires room { HasRoomForPiece (port_in (state_of self.old) came).load piece.now }
+        requires whole { IsWholeCard self.old }
+        requires may { MayGoOn (world_state self.old) came }
+        requires room { HasRoomForPiece (port_in (world_state self.old) came).load piece.now }
         ensures { OnOk result (Came self.old self.new
-            (piece_made (state_of self.old) came piece.now)) }
+            (piece_made (world_state self.old) came piece.now)) }
     {
         let port = &mut self.ports[usize::from(came)];
         let number = port.next_number();
@@ -44,9 +44,9 @@ impl World {
 
     // A load ends.
     pub(super) fn end_load(&mut self, alloc: Global, came: u8) -> Result<(), NoMemory>
-        requires whole { IsWhole self.old }
-        requires may { MayGoOn (state_of self.old) came }
-        ensures { OnOk result ((made : Made) × MakesEnd (state_of self.old) came made
+        requires whole { IsWholeCard self.old }
+        requires may { MayGoOn (world_state self.old) came }
+        ensures { OnOk result ((made : Made) × MakesEnd (world_state self.old) came made
             × Came self.old self.new made) }
     {
         let port = &mut self.ports[usize::from(came)];

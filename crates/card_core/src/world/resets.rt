@@ -5,7 +5,7 @@ ghost use Rattle.apdu_codec.specs.Command.{apdu_of};
 ghost use Rattle.card_core.specs.AtPort.{IsRestarted};
 ghost use Rattle.card_core.specs.ManageLsi.{lsi_made, lsi_reset};
 ghost use Rattle.card_core.specs.PortReset.{reset_made};
-ghost use Rattle.card_core.specs.Whole.{Came, IsWhole, MayGoOn, state_of};
+ghost use Rattle.card_core.specs.Whole.{Came, IsWholeCard, MayGoOn, world_state};
 ghost use Rattle.card_core.specs.World.{entry_at, opened};
 ghost use Rattle.card_core.specs.declared.entry.Line.TheVariants as lines;
 ghost use Rattle.card_core.specs.declared.port.Port as ports_of;
@@ -17,8 +17,9 @@ use lsi_refresh::{Lsi, count_body, read_lsi};
 
 fn restart_ports(ports: &mut [Port])
     ensures length { length ports.new ≡ length ports.old }
-    ensures each { (number : ℕ) (before after : ports_of.Port) → slice_get ports.old number ≡ Some before
-        → slice_get ports.new number ≡ Some after → IsRestarted before after }
+    ensures each { (number : ℕ) (before after : ports_of.Port)
+        → slice_get ports.old number ≡ Some before → slice_get ports.new number ≡ Some after
+        → IsRestarted before after }
 {
     for port in ports.iter_mut() {
         port.restart();
@@ -28,9 +29,9 @@ fn restart_ports(ports: &mut [Port])
 impl World {
     // The reset of a port by its own statement.
     pub(super) fn reset(&mut self, came: u8) -> Result<(), NoMemory>
-        requires whole { IsWhole self.old }
-        requires may { MayGoOn (state_of self.old) came }
-        ensures { OnOk result (Came self.old self.new (reset_made (state_of self.old) came)) }
+        requires whole { IsWholeCard self.old }
+        requires may { MayGoOn (world_state self.old) came }
+        ensures { OnOk result (Came self.old self.new (reset_made (world_state self.old) came)) }
     {
         let port = &mut self.ports[usize::from(came)];
         let number = port.next_number();
@@ -43,7 +44,7 @@ impl World {
     fn tell_reset(&mut self, port: u8, by: Maker) -> Result<(), NoMemory>
         ensures entries { OnOk result (self.new.entries ≡ self.old.entries
             ++ (if port == by.port then []
-            else entry_at (state_of self.old) port (lines.ForeignReset by) ∷ [])) }
+            else entry_at (world_state self.old) port (lines.ForeignReset by) ∷ [])) }
         ensures durable { self.new.durable ≡ self.old.durable }
         ensures ports { self.new.ports ≡ self.old.ports }
         ensures shared { self.new.shared ≡ self.old.shared }
@@ -58,11 +59,11 @@ impl World {
 
     // A MANAGE LSI that resets a port.
     fn reset_by_lsi(&mut self, came: u8, port: u8) -> Result<(), NoMemory>
-        requires whole { IsWhole self.old }
-        requires may { MayGoOn (state_of self.old) came }
+        requires whole { IsWholeCard self.old }
+        requires may { MayGoOn (world_state self.old) came }
         requires port { port < self.old.durable.heads.ports.count }
         ensures { OnOk result (Came self.old self.new
-            (lsi_reset (state_of self.old) came port)) }
+            (lsi_reset (world_state self.old) came port)) }
     {
         let sender = &mut self.ports[usize::from(came)];
         let number = sender.next_number();
@@ -81,10 +82,10 @@ impl World {
 
     // MANAGE LSI on an open channel.
     pub(super) fn manage_lsi(&mut self, came: u8, command: &Command) -> Result<(), NoMemory>
-        requires whole { IsWhole self.old }
-        requires may { MayGoOn (state_of self.old) came }
+        requires whole { IsWholeCard self.old }
+        requires may { MayGoOn (world_state self.old) came }
         ensures { OnOk result (Came self.old self.new
-            (lsi_made (state_of self.old) came (apdu_of command.now))) }
+            (lsi_made (world_state self.old) came (apdu_of command.now))) }
     {
         let ports = self.durable.heads.ports.count;
         match read_lsi(command, ports) {
@@ -100,7 +101,7 @@ impl World {
 
     // A power cycle. It takes no memory.
     pub(super) fn power(&mut self)
-        requires { IsWhole self.old }
+        requires { IsWholeCard self.old }
         ensures { Came self.old self.new
             (record { state = opened self.old.durable; entries = [] }) }
     {

@@ -8,7 +8,7 @@ use Rattle.card_core.specs.AtPort.{port_state}
 use Rattle.card_core.specs.Load.{EndsLoad, LoadEnd, end_made}
 use Rattle.card_core.specs.LoadState.{LoadState}
 use Rattle.card_core.specs.PortState.{PortState, counted}
-use Rattle.card_core.specs.Whole.{state_of}
+use Rattle.card_core.specs.Whole.{world_state}
 use Rattle.card_core.specs.World.{count_if, port_in}
 use Rattle.card_core.specs.declared.entry.Line.TheVariants.{Loaded}
 use Rattle.card_core.specs.declared.port.Port.{Port}
@@ -27,7 +27,7 @@ returns c =
     let told = c.in_ok-tell.ensures in
     let are = c.requires.whole.are in
     let was = here before came c.requires.whole c.requires.may place port at read in
-    let same : port_in (state_of before) came ≡ port_state port =
+    let same : port_in (world_state before) came ≡ port_state port =
     port_is before came c.requires.whole c.requires.may place port at read in
     let end : LoadEnd = record {
       durable = c.end_load.new.durable;
@@ -45,7 +45,7 @@ returns c =
       entries = c.tell.new.self.entries;
     } in
     let step = c.end_load-load in (
-      end_made (state_of before) came end,
+      end_made (world_state before) came end,
       (
         end,
         subst (λ (its : Option LoadState). EndsLoad before.durable (before.commits + 1) its end)
@@ -62,7 +62,7 @@ returns c =
           ∙ ap (λ (n : ℕ). before.commits + n) c.count_if.ensures)
           (told_as before after.entries before.shared came
           (λ (its : PortState). Loaded (its.statements + 1) end.outcome) (port_state port)
-          (port_in (state_of before) came)
+          (port_in (world_state before) came)
           (told_as before after.entries before.shared came (λ (n : ℕ). Loaded n end.outcome)
           number.result (port.statements + 1) told.entries number.ensures) (sym same))
           (whole_kept after end.durable ports told.durable (ap (λ its. its.items) told.ports)

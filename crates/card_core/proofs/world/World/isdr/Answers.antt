@@ -21,7 +21,7 @@ use Rattle.card_core.specs.IsdrCommand.{at_each, busy_of, came_at, isdr_carried,
 use Rattle.card_core.specs.IsdrCommand.{kept_on, move_at, moves_lines, port_moved}
 use Rattle.card_core.specs.PortState.{PortState}
 use Rattle.card_core.specs.Recorded.{recorded}
-use Rattle.card_core.specs.Whole.{Came, state_of}
+use Rattle.card_core.specs.Whole.{Came, world_state}
 use Rattle.card_core.specs.World.{count_if}
 use Rattle.card_core.specs.declared.entry.Entry.{Entry}
 use Rattle.card_core.specs.declared.entry.Line.TheVariants.{Answered}
@@ -100,7 +100,7 @@ returns c =
       commits = c.tell.new.self.commits + c.count_if-2.result;
       entries = c.add_moves.new.entries;
     } in
-    subst (λ (its : DeskOutcome). Came before after (isdr_carried (state_of before) came command
+    subst (λ (its : DeskOutcome). Came before after (isdr_carried (world_state before) came command
     its))
     (ap (outcome (port_state port)) (c.busy_of-busy.ensures
     ∙ ap (λ (xs : List Port). busy_of (map port_state xs)) c.deref.ensures.value)

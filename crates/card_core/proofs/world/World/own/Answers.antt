@@ -9,7 +9,7 @@ use Rattle.card_core.proofs.CameLemmas.{came_there, on_ok, port_is, ports_with, 
 use Rattle.card_core.specs.AtPort.{port_state}
 use Rattle.card_core.specs.OwnCommand.{changed_where, port_after}
 use Rattle.card_core.specs.PortState.{PortState}
-use Rattle.card_core.specs.Whole.{state_of}
+use Rattle.card_core.specs.Whole.{world_state}
 use Rattle.card_core.specs.World.{card_on, count_if, port_in}
 use Rattle.card_core.specs.declared.entry.Line.TheVariants.{Answered}
 use Rattle.card_core.specs.declared.world.World.{World}
@@ -27,7 +27,7 @@ returns c =
     let its_answer = c.in_ok-answer.ensures in
     let at = c.from.ensures in
     let read = c.index_mut-port.ensures.value in
-    let now : PortState = port_in (state_of before) came in
+    let now : PortState = port_in (world_state before) came in
     let same : port_state port ≡ now =
     sym (port_is before came c.requires.whole c.requires.may c.from.result port at read) in
     let comes : PortState → CommandOutcome =

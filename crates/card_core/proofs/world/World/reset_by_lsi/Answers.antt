@@ -8,7 +8,7 @@ use Rattle.card_core.proofs.ResetLemmas.{reset_stands, reset_states}
 use Rattle.card_core.proofs.WholeLemmas.{same_card}
 use Rattle.card_core.specs.AtPort.{AreAtPorts, port_state}
 use Rattle.card_core.specs.PortState.{PortState, counted}
-use Rattle.card_core.specs.Whole.{state_of}
+use Rattle.card_core.specs.Whole.{world_state}
 use Rattle.card_core.specs.World.{port_in}
 use Rattle.card_core.specs.declared.entry.Entry.{Entry}
 use Rattle.card_core.specs.declared.entry.Line.TheVariants.{Answered, ForeignReset}
@@ -54,7 +54,7 @@ returns c =
     ∙ reset_states before.durable ports c.args.port c.from-2.result other c.reset.new.self stand
     below c.from-2.ensures c.index_mut.ensures.value c.reset.ensures.state c.reset.ensures.card
     (slice_set (map port_state before.ports.items) came
-    (counted (port_in (state_of before) came)))
+    (counted (port_in (world_state before) came)))
     (ports_with before came c.requires.whole c.requires.may place port put at read counted
     c.count.ensures.state))
     (ap (λ (n : ℕ). n + 1) (ends.shared ∙ told.shared)) (ends.commits ∙ told.commits)

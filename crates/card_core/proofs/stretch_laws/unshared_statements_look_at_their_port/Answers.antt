@@ -1,0 +1,10 @@
+use Rattle.card_core.proofs.LocalLemmas.{stays_local}
+use Rattle.card_core.proofs.SoundLemmas.{sound_card}
+use Rattle.card_core.proofs.StretchLemmas.{local_again}
+use Rattle.card_core.proofs.stretch_laws.unshared_statements_look_at_their_port.Goals as goal
+
+pub returns : goal.returns
+returns c state other port event failed made sound below within same stays happens =
+    local_again port state sound event failed made
+    (stays_local port state (sound_card state sound port) failed event made stays happens) other
+    below within same

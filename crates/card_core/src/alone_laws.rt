@@ -1,0 +1,48 @@
+ghost use Rattle.std.specs.Prelude.{◌≡◌, ℕ, Bool, List};
+ghost use Rattle.std.specs.List.{AllByRecursion};
+ghost use Rattle.apdu_codec.specs.declared.answers.Answer as answers;
+ghost use Rattle.profile_card.specs.Card.{Card};
+ghost use Rattle.profile_card.specs.Step.{Event as CardEvent};
+ghost use Rattle.card_core.specs.Alone.{IsAnsweredAlone, RunsAlone, StartsAlone};
+ghost use Rattle.card_core.specs.Run.{IsOnCard};
+ghost use Rattle.card_core.specs.Share.{AreShares, Share};
+ghost use Rattle.card_core.specs.Sound.{BringsBytes, HasSoundLoads, IsSoundState};
+ghost use Rattle.card_core.specs.Stepped.{AreSteps, Happens, Stepped};
+ghost use Rattle.card_core.specs.World.{Made, WorldState};
+ghost use Rattle.card_core.specs.declared.event.Event.{Event};
+
+/// Whatever comes to a card leaves one that a card may be, also where a statement fails: what it
+/// keeps is a card's, the port rule included, and each session names what is there.
+pub fn cards_stay_sound_with_each_event()
+    ensures { (state : WorldState) (event : Event) (failed : Bool) (made : Made)
+        → IsSoundState state → HasSoundLoads state
+        → IsOnCard state.durable.heads.ports.count event → BringsBytes event
+        → Happens failed state event made → IsSoundState made.state × HasSoundLoads made.state }
+{}
+
+/// Whatever comes to a card, and whichever of its statements fail for want of memory or because a
+/// record wasn't stored, each profile's own commands are answered as by a card that holds the
+/// profile alone. That card is given the same commands, the resets of the profile's port, the power
+/// cycles, and that the profile comes to a port and leaves it.
+pub fn profiles_are_answered_as_alone()
+    ensures { (start : WorldState) (events : List Event) (steps : List Stepped)
+        (after : WorldState) → IsSoundState start → HasSoundLoads start
+        → AllByRecursion (IsOnCard start.durable.heads.ports.count) events
+        → AllByRecursion BringsBytes events → AreSteps start events steps after
+        → (profile : ℕ) → IsAnsweredAlone profile start steps after }
+{}
+
+/// What a profile is given decides how it is answered: in two runs in which its card is the same at
+/// the start and is given the same, it gives the same answers, whatever else came to the two cards.
+/// A run gives a profile one share.
+pub fn what_a_profile_is_given_decides_its_answers()
+    ensures alike { (profile : ℕ) (start other : WorldState) (steps others : List Stepped)
+        (after another : WorldState) (card : Card) (share its : Share)
+        → IsAnsweredAlone profile start steps after
+        → IsAnsweredAlone profile other others another
+        → StartsAlone profile start steps card → StartsAlone profile other others card
+        → AreShares profile steps share → AreShares profile others its
+        → share.given ≡ its.given → share.answers ≡ its.answers }
+    ensures once { (profile : ℕ) (steps : List Stepped) (one other : Share)
+        → AreShares profile steps one → AreShares profile steps other → one ≡ other }
+{}
