@@ -1,12 +1,4 @@
 pub mod DemoLemmas
 pub mod EndsLemmas
-pub mod HexText
 pub mod LoadLemmas
-pub mod ScriptFaults
-pub mod ScriptFeeds
-pub mod ScriptPlaces
-pub mod ScriptReadings
-pub mod ScriptStatements
-pub mod ScriptText
-pub mod ScriptWords
 pub mod WordsLemmas

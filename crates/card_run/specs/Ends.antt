@@ -3,8 +3,9 @@ use Rattle.std.specs.Prelude.{◌≡◌, ℕ, Option, List, IfSome, String, ⊤}
 use Rattle.std.specs.Io.KnownBytes.{Appends, IsAtEnd}
 use Rattle.std.specs.declared.alloc.Global.{Global}
 use Rattle.port_io.specs.Faults.{Rose}
-use Rattle.card_run.specs.Demo.{IsAnswerText, IsDemo}
-use Rattle.card_run.specs.Script.{HasFirstFault, IsSomeScript}
+use Rattle.script_text.specs.Script.{HasFirstFault}
+use Rattle.script_text.specs.declared.line_set.LineSet.TheVariants.{PortOne}
+use Rattle.card_run.specs.Demo.{IsAnswerText, IsDemo, IsSomeScript}
 use Rattle.card_run.specs.declared.status.Status.{Status}
 use Rattle.card_run.specs.declared.status.Status.TheVariants.{Done, Usage, Script, ReadFault}
 use Rattle.card_run.specs.declared.status.Status.TheVariants.{WriteFault, NoMemory}
@@ -39,7 +40,7 @@ streams left read_faults written write_faults =
 abbrev pub HasRunCause : Streams → Streams → Status → Type 0
 HasRunCause before after Usage = ⊥
 HasRunCause before after (Script line kind) =
-    IfSome before.left (λ text. HasFirstFault text line kind)
+    IfSome before.left (λ text. HasFirstFault PortOne text line kind)
 HasRunCause before after ReadFault = Rose before.read_faults after.read_faults
 HasRunCause before after WriteFault =
     IfSome before.left IsSomeScript × Rose before.write_faults after.write_faults
@@ -47,8 +48,8 @@ HasRunCause before after NoMemory = ⊤
 -- all was read, and the whole text of the answers was written
 HasRunCause before after Done =
     IsAtEnd after.left
-    × IfSome before.left (λ script. (text : List ℕ)
-    × IsAnswerText script text × Appends before.written after.written text)
+    × IfSome before.left (λ text. (printed : List ℕ)
+    × IsAnswerText text printed × Appends before.written after.written printed)
 
 -- why the program ends so: Usage where the words are not `demo`, any other status where they are
 abbrev pub HasCause : List (String Global) → Streams → Streams → Status → Type 0
@@ -59,7 +60,7 @@ HasCause words before after status = IsDemo words × HasRunCause before after st
 -- fault, and memory may run out
 abbrev pub IsEndOf : List ℕ → Status → Type 0
 IsEndOf text Done = IsSomeScript text
-IsEndOf text (Script line kind) = HasFirstFault text line kind
+IsEndOf text (Script line kind) = HasFirstFault PortOne text line kind
 IsEndOf text NoMemory = ⊤
 IsEndOf text Usage = ⊥
 IsEndOf text ReadFault = ⊥
@@ -79,7 +80,7 @@ LeavesAlone left source source_after sink sink_after Done = ⊤
 -- why no script was read from a source
 abbrev pub HasLoadCause : Option (List ℕ) → ℕ → ℕ → Status → Type 0
 HasLoadCause left before after (Script line kind) =
-    IfSome left (λ text. HasFirstFault text line kind)
+    IfSome left (λ text. HasFirstFault PortOne text line kind)
 HasLoadCause left before after ReadFault = Rose before after
 HasLoadCause left before after NoMemory = ⊤
 HasLoadCause left before after Done = ⊥

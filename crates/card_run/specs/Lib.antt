@@ -1,5 +1,2 @@
 pub mod Demo
 pub mod Ends
-pub mod Lines
-pub mod Places
-pub mod Script

@@ -1,26 +1,36 @@
 //! `demo`: the sample card answers a script.
-ghost use Rattle.std.specs.Prelude.{◌≡◌, ℕ, List, IfSome, IfOk, IfErr, OnOk, OnErr, length, ◌++◌};
+ghost use Rattle.std.specs.Prelude.{◌≡◌, ◌≤◌, ℕ, List, IfSome, IfOk, IfErr, OnOk, OnErr};
+ghost use Rattle.std.specs.Prelude.{◌++◌, [], MatchOption};
 ghost use Rattle.std.specs.Io.KnownBytes.{Appends, IsAtEnd};
 ghost use Rattle.apdu_codec.specs.declared.answers.Answer.{Answer};
+ghost use Rattle.card_core.specs.Text.{entry_text};
+ghost use Rattle.card_core.specs.declared.script.Statement.{Statement};
 ghost use Rattle.file_rows.specs.Change.{Fits};
 ghost use Rattle.port_io.specs.Faults.{FailsOnlyWhereRose, NeverFalls, Rose};
 ghost use Rattle.port_io.specs.Sink.{TakesPart};
 ghost use Rattle.profile_card.specs.CardState.{HasRoomFor, card_of, content_of};
 ghost use Rattle.profile_card.specs.Step.{AnswersWith};
-ghost use Rattle.card_run.specs.Demo.{IsAnswerText, IsDemo, IsRun, WritesPrefix, answer_line};
-ghost use Rattle.card_run.specs.Demo.{demo_text};
+ghost use Rattle.script_text.specs.Commands.{IsCommandScript};
+ghost use Rattle.script_text.specs.Ports.{statements_of};
+ghost use Rattle.script_text.specs.Item.Item.{Stated};
+ghost use Rattle.script_text.specs.Lent.{event_of, item_of};
+ghost use Rattle.script_text.specs.Script.{IsScript, script_of, statement_in};
+ghost use Rattle.script_text.specs.declared.line_set.LineSet.TheVariants.{PortOne};
+ghost use Rattle.card_run.specs.Demo.{IsAnswerText, IsDemo, IsRun, WritesPrefix, answer_entry};
+ghost use Rattle.card_run.specs.Demo.{command_of, demo_text};
 ghost use Rattle.card_run.specs.Ends.{HasCause, HasLoadCause, HasWriteCause, IsEndOf, LeavesAlone};
 ghost use Rattle.card_run.specs.Ends.{streams};
-ghost use Rattle.card_run.specs.Script.{IsScript};
 
-use crate::output::{MAX_BODY_DIGITS, push_answer};
-use crate::script::{MAX_SCRIPT_BYTES, Script, ScriptFault, read_script};
 use crate::status::Status;
 use crate::words::is_demo;
-use apdu_codec::read_command;
+use apdu_codec::{Answer, read_command};
 use file_rows::Change;
 use port_io::{Failed, ReadError, Sink, Source, read_source, write_all};
 use profile_card::{Card1, NoMemory, sample_card};
+use script_text::{
+    EventRef, ItemRef, LineSet, MAX_SCRIPT_BYTES, ScriptFault, ScriptItems, push_answer_line,
+    read_script_of,
+};
 use std::alloc::Global;
 use uicc_channels::Decided;
 
@@ -29,6 +39,9 @@ const BLOCK: usize = 65_536;
 
 /// The most bytes that one line of text has: `1.K `, 258 bytes in hex and LF.
 const LONGEST_LINE: usize = 1_024;
+
+/// The port at which the sample card stands.
+const PORT: u8 = 1;
 
 // Takes the memory that a change needs, where there is one. Without it nothing changes.
 fn reserve(card: &mut Card1, change: &Option<Change>) -> Result<(), NoMemory>
@@ -42,45 +55,37 @@ fn reserve(card: &mut Card1, change: &Option<Change>) -> Result<(), NoMemory>
     }
 }
 
-// What one command after another is decided in and written with, so that none is copied.
-#[derive(Drop)]
-struct Scratch {
-    decided: Decided,
-    digits: [u8; MAX_BODY_DIGITS],
-}
-
 // Appends the line of the card's answer to statement `number`, and carries out what the command
-// comes to. Without memory the card stays as it was.
+// comes to, which is decided in `decided`. Without memory the card stays as it was.
 fn reply(
     card: &mut Card1,
-    number: usize,
+    number: u32,
     bytes: &[u8],
     text: &mut Vec<u8>,
-    scratch: &mut Scratch,
+    decided: &mut Decided,
 ) -> Result<(), NoMemory>
     ensures given { OnOk result ((answer : Answer)
         × AnswersWith (card_of card.old) bytes.now answer (card_of card.new)
-        × (text.new.items ≡ text.old.items ++ answer_line number answer)) }
+        × (text.new.items ≡ text.old.items ++ entry_text (answer_entry number answer))) }
     ensures as_before { OnErr result (card_of card.new ≡ card_of card.old) }
 {
     match read_command(bytes) {
         Ok(command) => {
-            card.decide_into(&command, &mut scratch.decided);
-            let decided = &scratch.decided;
-            let body = decided.answer.body.as_slice();
-            push_answer(text, number, body, decided.answer.sw, &mut scratch.digits)?;
+            card.decide_into(&command, decided);
+            push_answer_line(text, PORT, number, &decided.answer)?;
             reserve(card, &decided.change)?;
             card.settle(decided);
         }
-        Err(sw) => push_answer(text, number, &[], sw, &mut scratch.digits)?,
+        Err(sw) => push_answer_line(text, PORT, number, &Answer::status(sw))?,
     }
     Ok(())
 }
 
 // Reads the script that the source has.
-fn load<S: Source>(alloc: Global, source: &mut S) -> Result<Script, Status>
+fn load<S: Source>(alloc: Global, source: &mut S) -> Result<ScriptItems, Status>
     ensures script { IfOk result
-        (λ script. IfSome (S.left source.old) (λ text. IsScript text script)) }
+        (λ items. IfSome (S.left source.old) (λ text. IsScript PortOne text (script_of items))) }
+    ensures commands { IfOk result (λ items. IsCommandScript (script_of items)) }
     ensures end { OnOk result (IsAtEnd (S.left source.new)) }
     ensures cause { IfErr result
         (HasLoadCause (S.left source.old) (S.faults source.old) (S.faults source.new)) }
@@ -91,7 +96,7 @@ fn load<S: Source>(alloc: Global, source: &mut S) -> Result<Script, Status>
         Err(ReadError::Fault) => return Err(Status::ReadFault),
         Err(ReadError::NoMemory) => return Err(Status::NoMemory),
     };
-    match read_script(alloc, &text) {
+    match read_script_of(alloc, LineSet::PortOne, &text) {
         Ok(script) => Ok(script),
         Err(ScriptFault::Bad { line, kind }) => Err(Status::Script { line, kind }),
         Err(ScriptFault::NoMemory) => Err(Status::NoMemory),
@@ -115,24 +120,50 @@ fn write_full_block<K: Sink>(out: &mut K, block: &mut Vec<u8>) -> Result<(), Fai
     Ok(())
 }
 
-// Writes the answers of the sample card to the statements of a script.
-fn answer_all<K: Sink>(alloc: Global, script: &Script, out: &mut K) -> Result<(), Status>
-    ensures done { OnOk result ((answers : List Answer) × IsRun script.now answers
+// The bytes that an event sends as a command.
+fn command_of<'a>(event: EventRef<'a>) -> &'a [u8]
+    ensures { result.now ≡ command_of (event_of event.entry) }
+{
+    match event {
+        EventRef::Apdu { bytes, .. } => bytes,
+        _ => &[],
+    }
+}
+
+// The bytes that an item sends as a command, where it is a statement.
+fn command_in<'a>(item: ItemRef<'a>) -> Option<&'a [u8]>
+    ensures { MatchOption result (statement_in (item_of item.entry) ≡ [])
+        (λ bytes. (statement : Statement) × (item_of item.entry ≡ Stated statement)
+        × (bytes.now ≡ command_of statement.event)) }
+{
+    match item {
+        ItemRef::Stated(statement) => Some(command_of(statement.event)),
+        ItemRef::PhaseEnd => None,
+        ItemRef::SectionEnd => None,
+    }
+}
+
+// Writes the answers of the sample card to the commands of a script.
+fn answer_all<K: Sink>(alloc: Global, script: &ScriptItems, out: &mut K) -> Result<(), Status>
+    requires { IsCommandScript (script_of script.now) }
+    ensures done { let statements = statements_of (script_of script.now) in
+        OnOk result ((answers : List Answer) × IsRun statements answers
         × Appends (K.written out.old) (K.written out.new) (demo_text answers)) }
-    ensures prefix { (answers : List Answer) → IsRun script.now answers
+    ensures prefix { (answers : List Answer) → IsRun (statements_of (script_of script.now)) answers
         → WritesPrefix (K.written out.old) (K.written out.new) (demo_text answers) }
     ensures cause { IfErr result (HasWriteCause (K.faults out.old) (K.faults out.new)) }
     ensures count { NeverFalls (K.faults out.old) (K.faults out.new) }
 {
     let mut card = sample_card(alloc)?;
     let mut block = Vec::with_capacity(alloc, BLOCK + LONGEST_LINE)?;
-    let mut scratch = Scratch {
-        decided: Decided::new(),
-        digits: [0; MAX_BODY_DIGITS],
-    };
+    let mut decided = Decided::new();
+    let mut number = 0;
     for index in 0..script.len() {
-        let bytes = script.statement(index).apdu;
-        reply(&mut card, index + 1, bytes, &mut block, &mut scratch)?;
+        let Some(bytes) = command_in(script.item(index)) else {
+            continue;
+        };
+        number += 1;
+        reply(&mut card, number, bytes, &mut block, &mut decided)?;
         write_full_block(out, &mut block)?;
     }
     write_all(out, &block)?;
@@ -177,11 +208,11 @@ pub fn demo_main<S: Source, K: Sink>(
     if !is_demo(words) {
         return Status::Usage;
     }
-    let statements = match load(alloc, script) {
-        Ok(statements) => statements,
+    let commands = match load(alloc, script) {
+        Ok(commands) => commands,
         Err(status) => return status,
     };
-    match answer_all(alloc, &statements, out) {
+    match answer_all(alloc, &commands, out) {
         Ok(()) => Status::Done,
         Err(status) => status,
     }

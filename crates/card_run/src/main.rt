@@ -2,8 +2,6 @@
 #![tactic(auto)]
 
 mod demo;
-mod output;
-mod script;
 mod status;
 mod words;
 

@@ -2,8 +2,8 @@
 ghost use Rattle.std.specs.Prelude.{◌≡◌};
 ghost use Rattle.card_run.specs.Ends.{status_number};
 
-use crate::script::ScriptKind;
 use port_io::Failed;
+use script_text::ScriptKind;
 use std::alloc::AllocError;
 use std::fmt;
 

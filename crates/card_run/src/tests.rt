@@ -4,8 +4,8 @@ ghost use Rattle.std.specs.Prelude.{Some};
 
 use super::*;
 use crate::demo::demo_main;
-use crate::script::ScriptKind;
 use port_io::{Failed, MemorySink, MemorySource, Sink};
+use script_text::ScriptKind;
 use std::alloc::{AllocError, Global};
 use std::test::Fail;
 

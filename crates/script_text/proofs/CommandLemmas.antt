@@ -16,8 +16,8 @@ use Rattle.script_text.specs.Commands.{AreCommandsAt, IsCommandScript, uncut_scr
 use Rattle.script_text.specs.Line.{is_admitted, is_command_at}
 use Rattle.script_text.specs.Ports.{statements_of}
 use Rattle.script_text.specs.Script.{HasFewStatements, HaveItems, IsScript, event_port, is_at, is_phase_end, is_section_end, phase_of, script_of, section_of, statement_in}
-use Rattle.script_text.specs.declared.item.Item.{Item}
-use Rattle.script_text.specs.declared.item.Item.TheVariants.{Stated, PhaseEnd, SectionEnd}
+use Rattle.script_text.specs.Item.{Item}
+use Rattle.script_text.specs.Item.Item.{Stated, PhaseEnd, SectionEnd}
 use Rattle.script_text.specs.declared.line_set.LineSet.TheVariants.{PortOne}
 use Rattle.script_text.proofs.DraftLemmas.{count_at-phases, one_at}
 use Rattle.script_text.proofs.FactLemmas.{statements_of-script_of}

@@ -16,10 +16,9 @@ use Rattle.script_text.specs.Line.{IsLine, Says, is_admitted}
 use Rattle.script_text.specs.Script.{IsScriptOrFaulty, count_at, line_of_byte}
 use Rattle.script_text.specs.Statement.{IsHex, IsPort, IsStatement, IsStep, SpellsWithin}
 use Rattle.script_text.specs.Words.{IsPassedOver, words}
-use Rattle.script_text.specs.declared.fault.ScriptKind.{ScriptKind}
 use Rattle.script_text.specs.declared.fault.ScriptKind.TheVariants.{Grammar, TooMany, TooLong}
-use Rattle.script_text.specs.declared.item.Item.{Item}
-use Rattle.script_text.specs.declared.item.Item.TheVariants.{Stated, PhaseEnd, SectionEnd}
+use Rattle.script_text.specs.Item.{Item}
+use Rattle.script_text.specs.Item.Item.{Stated, PhaseEnd, SectionEnd}
 use Rattle.script_text.specs.declared.line_set.LineSet.{LineSet}
 use Rattle.script_text.proofs.DraftLemmas.{is_at-port, same_port}
 use Rattle.script_text.proofs.ItemLemmas.{IsLine-same, Says-port}

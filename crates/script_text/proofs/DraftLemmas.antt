@@ -1,7 +1,6 @@
 -- The statements of a section that goes on are counted on.
-use Rattle.std.proofs.Common.{◌≡◌, ◌≢◌, ℕ, ◌+◌, ◌<◌, ◌==◌, Bool, true, false, cond, List, [], ◌∷◌, ◌++◌, length, Option, Some, refl, sym, ap, ◌∙◌, subst, arith, inl, inr}
+use Rattle.std.proofs.Common.{◌≡◌, ◌≢◌, ℕ, ◌+◌, ◌<◌, true, false, cond, List, [], ◌∷◌, ◌++◌, length, Some, refl, sym, ap, ◌∙◌, arith, inl, inr, add-zero}
 use Rattle.std.specs.Prelude.{slice_index, slice_index_or, slice_set, count_by}
-use Rattle.std.specs.Option.{option_map_or}
 use Rattle.std.proofs.lemmas.Bool.{cases_eq, eq-eqb, eqb-true, ne_eqb, cond-true, cond-false}
 use Rattle.std.proofs.lemmas.List.{get_or-set_same, get_or-set_other}
 use Rattle.std.proofs.lemmas.List.Sums.{sum_by_push}
@@ -78,3 +77,9 @@ counted-push phases statements statement counts place eight below at counted por
           let before = counted port low in
           omega (arith, other, before, more, none)
     ]
+
+-- the statements of a phase that ends stay counted
+pub counted-phase_end : (port : ℕ) (phases : List Phase) (statements : List Statement)
+    → count_at port (section_with (phases ++ record { statements = statements } ∷ []) []) ≡ count_at port (section_with phases statements)
+counted-phase_end port phases statements =
+    count_at-phases port (phases ++ record { statements = statements } ∷ []) [] ∙ add-zero (count_at port (section_with phases statements))

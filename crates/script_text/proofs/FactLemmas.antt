@@ -1,5 +1,5 @@
 -- What every script keeps: the ports that its statements name, and how long its pieces are together.
-use Rattle.std.proofs.Common.{◌≡◌, ℕ, ◌+◌, ◌-◌, ◌*◌, ◌<◌, ◌≤◌, ◌^◌, ◌==◌, Bool, true, false, cond, List, [], ◌∷◌, ◌++◌, length, take, codes, Result, Ok, Err, refl, sym, ap, ◌∙◌, subst, arith, inl, inr, append_assoc}
+use Rattle.std.proofs.Common.{◌≡◌, ℕ, ◌+◌, ◌-◌, ◌<◌, ◌≤◌, ◌^◌, ◌==◌, Bool, List, [], ◌∷◌, ◌++◌, length, take, codes, Result, Ok, Err, sym, ap, ◌∙◌, subst, arith, inl, inr, append_assoc}
 use Rattle.std.specs.Prelude.{IfOk, filter, slice_index}
 use Rattle.std.specs.List.{AllByRecursion, flat_map, fold, onto_first, slice_split, sum_by}
 use Rattle.std.specs.Str.Lines.{lines, lines_of_parts, strip_carriage_return}
@@ -10,7 +10,6 @@ use Rattle.std.proofs.lemmas.List.Sums.{sum_by-cons}
 use Rattle.hex.proofs.HexLemmas.{decode_of-ok}
 use Rattle.card_core.specs.declared.event.Event.{Event}
 use Rattle.card_core.specs.declared.event.Event.TheVariants.{Apdu, Reset, Load, Power}
-use Rattle.card_core.specs.declared.event.LoadStep.{LoadStep}
 use Rattle.card_core.specs.declared.event.LoadStep.TheVariants.{Begin, Piece, End}
 use Rattle.card_core.specs.declared.script.Phase.{Phase}
 use Rattle.card_core.specs.declared.script.Script.{Script}
@@ -21,11 +20,11 @@ use Rattle.script_text.specs.Line.{Says}
 use Rattle.script_text.specs.Ports.{NamesPort, script_piece_bytes, piece_of, statements_of}
 use Rattle.script_text.specs.Readings.{IsTextReading}
 use Rattle.script_text.specs.Script.{HaveItems, IsScript, script_of, statement_in}
-use Rattle.script_text.specs.Statement.{IsHex, IsStatement, IsStep}
+use Rattle.script_text.specs.Statement.{IsHex, IsStatement}
 use Rattle.script_text.specs.Words.{is_word, words}
 use Rattle.script_text.specs.declared.fault.ScriptFault.{ScriptFault}
-use Rattle.script_text.specs.declared.item.Item.{Item}
-use Rattle.script_text.specs.declared.item.Item.TheVariants.{Stated, PhaseEnd, SectionEnd}
+use Rattle.script_text.specs.Item.{Item}
+use Rattle.script_text.specs.Item.Item.{Stated, PhaseEnd, SectionEnd}
 use Rattle.script_text.specs.declared.line_set.LineSet.{LineSet}
 use Rattle.script_text.proofs.CutLemmas.{script_of-fold}
 use Rattle.script_text.proofs.ItemLemmas.{Says-port}
@@ -227,12 +226,12 @@ IsScript-pieces set text script read =
 
 -- ---- what a right answer says
 
-pub ports-from_reads : (set : LineSet) (text : List ℕ) (r : Result Script ScriptFault) → IsTextReading set text r
-    → IfOk r (λ script. AllByRecursion NamesPort (statements_of script))
-ports-from_reads set text (Ok script) h = IsScript-ports set text script h
+pub ports-from_reads : (set : LineSet) (text : List ℕ) (r : Result (List Item) ScriptFault) → IsTextReading set text r
+    → IfOk r (λ items. AllByRecursion NamesPort (statements_of (script_of items)))
+ports-from_reads set text (Ok items) h = IsScript-ports set text (script_of items) h
 ports-from_reads set text (Err e) h = tt
 
-pub pieces-from_reads : (set : LineSet) (text : List ℕ) (r : Result Script ScriptFault) → IsTextReading set text r
-    → IfOk r (λ script. script_piece_bytes script < 2 ^ 32)
-pieces-from_reads set text (Ok script) h = IsScript-pieces set text script h
+pub pieces-from_reads : (set : LineSet) (text : List ℕ) (r : Result (List Item) ScriptFault) → IsTextReading set text r
+    → IfOk r (λ items. script_piece_bytes (script_of items) < 2 ^ 32)
+pieces-from_reads set text (Ok items) h = IsScript-pieces set text (script_of items) h
 pieces-from_reads set text (Err e) h = tt

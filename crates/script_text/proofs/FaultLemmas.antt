@@ -1,18 +1,18 @@
 -- A text is a script or has a first fault, never both, and has one of them.
-use Rattle.std.proofs.Common.{◌≡◌, ℕ, suc, ◌+◌, ◌<◌, ◌≤◌, ◌==◌, ◌⊎◌, List, [], ◌∷◌, ◌++◌, length, Result, Ok, Err, refl, sym, ap, ◌∙◌, subst, arith, inl, inr, append_assoc}
+use Rattle.std.proofs.Common.{◌≡◌, ℕ, ◌+◌, ◌<◌, ◌≤◌, ◌⊎◌, List, [], ◌∷◌, ◌++◌, length, Result, Ok, Err, refl, sym, ap, ◌∙◌, subst, arith, inl, inr, append_assoc}
 use Rattle.std.specs.Prelude.{IfOk}
 use Rattle.std.specs.Str.Lines.{lines}
 use Rattle.std.proofs.lemmas.Bool.{cases_order}
 use Rattle.card_core.specs.declared.script.Script.{Script}
 use Rattle.script_text.specs.Line.{IsFaulty, Says}
-use Rattle.script_text.specs.Readings.{IsTextReading}
+use Rattle.script_text.specs.Readings.{IsReadAs, IsTextReading}
 use Rattle.script_text.specs.Script.{HasFewStatements, HasFirstFault, HaveItems, IsScript, ReadsUpTo, script_of}
 use Rattle.script_text.specs.Words.{words}
 use Rattle.script_text.specs.declared.fault.ScriptFault.{ScriptFault}
 use Rattle.script_text.specs.declared.fault.ScriptFault.TheVariants.{Bad, NoMemory}
 use Rattle.script_text.specs.declared.fault.ScriptKind.{ScriptKind}
 use Rattle.script_text.specs.declared.fault.ScriptKind.TheVariants.{Grammar, TooMany, TooLong}
-use Rattle.script_text.specs.declared.item.Item.{Item}
+use Rattle.script_text.specs.Item.{Item}
 use Rattle.script_text.specs.declared.line_set.LineSet.{LineSet}
 use Rattle.script_text.proofs.FewLemmas.{few_prefix}
 use Rattle.script_text.proofs.ItemLemmas.{Says-same, passed_or_said}
@@ -165,24 +165,24 @@ HasFirstFault-same set text number other TooMany Grammar h k =
 
 -- ---- what a right answer says
 
-pub script-from_reads : (set : LineSet) (text : List ℕ) (r : Result Script ScriptFault) → IsTextReading set text r → IfOk r (λ script. IsScript set text script)
-script-from_reads set text (Ok script) h = h
+pub script-from_reads : (set : LineSet) (text : List ℕ) (r : Result (List Item) ScriptFault) → IsTextReading set text r → IfOk r (λ items. IsScript set text (script_of items))
+script-from_reads set text (Ok items) h = h
 script-from_reads set text (Err e) h = tt
 
-pub fault-from_reads : (set : LineSet) (text : List ℕ) (r : Result Script ScriptFault) → IsTextReading set text r
+pub fault-from_reads : (set : LineSet) (text : List ℕ) (r : Result (List Item) ScriptFault) → IsTextReading set text r
     → (number : ℕ) (kind : ScriptKind) → r ≡ Err (Bad number kind) → HasFirstFault set text number kind
 fault-from_reads set text r h number kind is =
-    let P : Result Script ScriptFault → Type 0 = λ x. IsTextReading set text x in subst P is h
+    let P : Result (List Item) ScriptFault → Type 0 = λ x. IsTextReading set text x in subst P is h
 
-pub read-from_reads : (set : LineSet) (text : List ℕ) (r : Result Script ScriptFault) → IsTextReading set text r
-    → (script : Script) → IsScript set text script → (r ≡ Ok script) ⊎ (r ≡ Err NoMemory)
-read-from_reads set text (Ok found) h script read = inl (ap Ok (IsScript-same set text found script h read))
+pub read-from_reads : (set : LineSet) (text : List ℕ) (r : Result (List Item) ScriptFault) → IsTextReading set text r
+    → (script : Script) → IsScript set text script → IsReadAs script r
+read-from_reads set text (Ok found) h script read = IsScript-same set text (script_of found) script h read
 read-from_reads set text (Err (Bad number kind)) h script read = absurd (not_both-fault set text script number kind read h)
-read-from_reads set text (Err NoMemory) h script read = inr refl
+read-from_reads set text (Err NoMemory) h script read = tt
 
-pub refused-from_reads : (set : LineSet) (text : List ℕ) (r : Result Script ScriptFault) → IsTextReading set text r
+pub refused-from_reads : (set : LineSet) (text : List ℕ) (r : Result (List Item) ScriptFault) → IsTextReading set text r
     → (number : ℕ) (kind : ScriptKind) → HasFirstFault set text number kind → (r ≡ Err (Bad number kind)) ⊎ (r ≡ Err NoMemory)
-refused-from_reads set text (Ok found) h number kind fault = absurd (not_both-fault set text found number kind h fault)
+refused-from_reads set text (Ok found) h number kind fault = absurd (not_both-fault set text (script_of found) number kind h fault)
 refused-from_reads set text (Err (Bad other another)) h number kind fault =
     let same = HasFirstFault-same set text other number another kind h fault in
     inl (ap (λ (n : ℕ). Err (Bad n another)) same.0 ∙ ap (λ (k : ScriptKind). Err (Bad number k)) same.1)

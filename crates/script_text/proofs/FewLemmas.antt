@@ -1,17 +1,14 @@
 -- How many statements a script has at a port, when one more item follows.
-use Rattle.std.proofs.Common.{◌≡◌, ℕ, ◌+◌, ◌<◌, ◌≤◌, true, false, List, [], ◌∷◌, ◌++◌, refl, sym, ap, ◌∙◌, subst, arith, inl, inr}
-use Rattle.std.specs.Prelude.{count_by}
+use Rattle.std.proofs.Common.{◌≡◌, ℕ, ◌≤◌, List, [], ◌∷◌, ◌++◌, sym, ap, ◌∙◌, subst, arith, inl, inr}
 use Rattle.std.specs.List.{AllByRecursion, fold}
 use Rattle.std.proofs.lemmas.Bool.{cases_Bool}
 use Rattle.std.proofs.lemmas.List.Sums.{fold-append}
-use Rattle.card_core.specs.declared.script.Phase.{Phase}
-use Rattle.card_core.specs.declared.script.Script.{Script}
 use Rattle.card_core.specs.declared.script.Section.{Section}
 use Rattle.card_core.specs.declared.script.Statement.{Statement}
 use Rattle.script_text.specs.Draft.{HasRoomIfStated, IsFull, OpenScript, empty_script, finished, open_section, with_item}
 use Rattle.script_text.specs.Script.{HasFewStatements, count_at, is_at, script_of}
-use Rattle.script_text.specs.declared.item.Item.{Item}
-use Rattle.script_text.specs.declared.item.Item.TheVariants.{Stated, PhaseEnd, SectionEnd}
+use Rattle.script_text.specs.Item.{Item}
+use Rattle.script_text.specs.Item.Item.{Stated, PhaseEnd, SectionEnd}
 use Rattle.script_text.proofs.CutLemmas.{script_of-fold}
 use Rattle.script_text.proofs.DraftLemmas.{count_at-phases, count_at-push, none_at, one_at}
 

@@ -1,5 +1,5 @@
 -- A line says one thing.
-use Rattle.std.proofs.Common.{◌≡◌, ℕ, ◌+◌, ◌<◌, ◌⊎◌, true, List, [], ◌∷◌, ◌++◌, codes, length, refl, sym, ap, ◌∙◌, subst, arith, inl, inr, Option, Some}
+use Rattle.std.proofs.Common.{◌≡◌, ℕ, ◌+◌, ◌<◌, ◌⊎◌, List, [], ◌∷◌, codes, refl, sym, ap, ◌∙◌, subst, arith, inl, inr}
 use Rattle.hex.proofs.HexLemmas.{decode_of-same}
 use Rattle.card_core.specs.declared.event.Event.{Event}
 use Rattle.card_core.specs.declared.event.Event.TheVariants.{Apdu, Reset, Load, Power}
@@ -10,10 +10,10 @@ use Rattle.script_text.specs.Draft.{NamesPortIfStated}
 use Rattle.script_text.specs.Line.{IsLine, Says}
 use Rattle.script_text.specs.Ports.{NamesPort}
 use Rattle.script_text.specs.Script.{event_port}
-use Rattle.script_text.specs.Statement.{IsHex, IsPort, IsStatement, IsStep, SpellsWithin}
+use Rattle.script_text.specs.Statement.{IsHex, IsPort, IsStatement, IsStep}
 use Rattle.script_text.specs.Words.{IsPassedOver, SpellsHex}
-use Rattle.script_text.specs.declared.item.Item.{Item}
-use Rattle.script_text.specs.declared.item.Item.TheVariants.{Stated, PhaseEnd, SectionEnd}
+use Rattle.script_text.specs.Item.{Item}
+use Rattle.script_text.specs.Item.Item.{Stated, PhaseEnd, SectionEnd}
 use Rattle.script_text.specs.declared.line_set.LineSet.{LineSet}
 use Rattle.script_text.proofs.StatementLemmas.{other_first}
 

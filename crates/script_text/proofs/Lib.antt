@@ -10,6 +10,7 @@ pub mod HexLemmas
 pub mod ItemLemmas
 pub mod ListingLemmas
 pub mod LongLemmas
+pub mod PoolLemmas
 pub mod PortLemmas
 pub mod ReadLemmas
 pub mod SplitLemmas

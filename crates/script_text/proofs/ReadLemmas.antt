@@ -1,5 +1,5 @@
 -- What the lines of a text say, and that they say nothing else.
-use Rattle.std.proofs.Common.{◌≡◌, ℕ, ◌+◌, ◌<◌, ◌≤◌, List, [], ◌∷◌, ◌++◌, length, Err, refl, sym, ap, ◌∙◌, subst, arith, inl, inr, add-zero, append_assoc, length-append}
+use Rattle.std.proofs.Common.{◌≡◌, ℕ, ◌+◌, ◌≤◌, List, [], ◌∷◌, ◌++◌, length, Err, refl, sym, ap, ◌∙◌, subst, arith, inl, inr, add-zero, append_assoc, length-append}
 use Rattle.std.specs.List.{fold}
 use Rattle.std.specs.Str.Lines.{lines}
 use Rattle.std.proofs.lemmas.List.{append-nil}
@@ -13,8 +13,8 @@ use Rattle.script_text.specs.declared.fault.ScriptFault.{ScriptFault}
 use Rattle.script_text.specs.declared.fault.ScriptFault.TheVariants.{Bad, NoMemory}
 use Rattle.script_text.specs.declared.fault.ScriptKind.{ScriptKind}
 use Rattle.script_text.specs.declared.fault.ScriptKind.TheVariants.{Grammar, TooMany}
-use Rattle.script_text.specs.declared.item.Item.{Item}
-use Rattle.script_text.specs.declared.item.Item.TheVariants.{Stated, PhaseEnd, SectionEnd}
+use Rattle.script_text.specs.Item.{Item}
+use Rattle.script_text.specs.Item.Item.{Stated, PhaseEnd, SectionEnd}
 use Rattle.script_text.specs.declared.line_set.LineSet.{LineSet}
 use Rattle.card_core.specs.declared.script.Statement.{Statement}
 use Rattle.script_text.proofs.CutLemmas.{script_of-fold}

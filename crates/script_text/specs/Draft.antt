@@ -1,5 +1,6 @@
 -- A script as far as it has been read.
 use Rattle.std.specs.Prelude.{◌≡◌, ℕ, ◌<◌, ◌≤◌, List, [], ◌∷◌, ◌++◌, ⊤, slice_index, true}
+use Rattle.std.specs.List.{fold}
 use Rattle.card_core.specs.declared.script.Phase.{Phase}
 use Rattle.card_core.specs.declared.script.Script.{Script}
 use Rattle.card_core.specs.declared.script.Section.{Section}
@@ -10,8 +11,8 @@ use Rattle.script_text.specs.declared.draft.Draft.{Draft}
 use Rattle.script_text.specs.declared.fault.ScriptFault.{ScriptFault}
 use Rattle.script_text.specs.declared.fault.ScriptFault.TheVariants.{Bad, NoMemory}
 use Rattle.script_text.specs.declared.fault.ScriptKind.TheVariants.{TooMany}
-use Rattle.script_text.specs.declared.item.Item.{Item}
-use Rattle.script_text.specs.declared.item.Item.TheVariants.{Stated, PhaseEnd, SectionEnd}
+use Rattle.script_text.specs.Item.{Item}
+use Rattle.script_text.specs.Item.Item.{Stated, PhaseEnd, SectionEnd}
 
 -- the sections that have ended, the phases of the last section that have ended, and the statements
 -- of its last phase
@@ -50,9 +51,9 @@ with_item open_script SectionEnd =
       statements = [];
     }
 
+-- what the items so far come to
 abbrev pub script_so_far : Draft → OpenScript
-script_so_far draft =
-    record { sections = draft.sections; phases = draft.phases; statements = draft.statements }
+script_so_far draft = fold with_item empty_script draft.script
 
 -- the statements of the last section are counted at each port
 abbrev pub IsCounted : Draft → Type 0

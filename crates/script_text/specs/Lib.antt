@@ -1,6 +1,9 @@
 pub mod Commands
 pub mod Draft
+pub mod Item
+pub mod Lent
 pub mod Line
+pub mod Pool
 pub mod Ports
 pub mod Readings
 pub mod Script

@@ -4,8 +4,8 @@ use Rattle.card_core.specs.declared.event.Event.{Event}
 use Rattle.card_core.specs.declared.event.Event.TheVariants.{Apdu, Reset, Load, Power}
 use Rattle.script_text.specs.Statement.{IsStatement}
 use Rattle.script_text.specs.Words.{IsPassedOver}
-use Rattle.script_text.specs.declared.item.Item.{Item}
-use Rattle.script_text.specs.declared.item.Item.TheVariants.{Stated, PhaseEnd, SectionEnd}
+use Rattle.script_text.specs.Item.{Item}
+use Rattle.script_text.specs.Item.Item.{Stated, PhaseEnd, SectionEnd}
 use Rattle.script_text.specs.declared.line_set.LineSet.{LineSet}
 use Rattle.script_text.specs.declared.line_set.LineSet.TheVariants.{All, PortOne}
 

@@ -14,8 +14,8 @@ use Rattle.script_text.specs.Line.{IsFaulty, Says}
 use Rattle.script_text.specs.Words.{IsPassedOver, words}
 use Rattle.script_text.specs.declared.fault.ScriptKind.{ScriptKind}
 use Rattle.script_text.specs.declared.fault.ScriptKind.TheVariants.{Grammar, TooMany, TooLong}
-use Rattle.script_text.specs.declared.item.Item.{Item}
-use Rattle.script_text.specs.declared.item.Item.TheVariants.{Stated, PhaseEnd, SectionEnd}
+use Rattle.script_text.specs.Item.{Item}
+use Rattle.script_text.specs.Item.Item.{Stated, PhaseEnd, SectionEnd}
 use Rattle.script_text.specs.declared.line_set.LineSet.{LineSet}
 
 -- these lines, the first of which has this number, are passed over or say these items, in order

@@ -1,61 +1,54 @@
 //! A script as far as it has been read.
-ghost use Rattle.std.specs.Prelude.{◌≡◌, ◌∷◌, ◌++◌, [], OnOk, IfOk, IfErr};
+ghost use Rattle.std.specs.Prelude.{◌≡◌, OnOk, IfOk, IfErr};
 ghost use Rattle.script_text.specs.Draft.{HasRoomIfStated, HasStatementRoom, IsCounted, IsNotAdded};
 ghost use Rattle.script_text.specs.Draft.{NamesPortIfStated, empty_script, finished};
 ghost use Rattle.script_text.specs.Draft.{script_so_far, with_item};
+ghost use Rattle.script_text.specs.Item.Item.{Stated, PhaseEnd, SectionEnd};
+ghost use Rattle.script_text.specs.Lent.{item_of, statement_of};
 ghost use Rattle.script_text.specs.Ports.{NamesPort};
-ghost use Rattle.script_text.specs.declared.item.Item.{Item};
-ghost use Rattle.script_text.specs.declared.item.Item.TheVariants.{Stated, PhaseEnd, SectionEnd};
+ghost use Rattle.script_text.specs.Script.{script_of};
 
-use crate::event_port::event_port;
-use crate::item::Item;
+use crate::item::{ItemRef, StatementRef};
+use crate::script_items::ScriptItems;
 use crate::{ScriptFault, ScriptKind};
-use card_core::{Phase, Script, Section, Statement};
-use plain_lists::LongList;
 use std::alloc::{AllocError, Global};
-use std::mem;
 
 /// The most statements that a section may have at a port.
 pub const MAX_STATEMENTS: u32 = 20_000;
 
-/// The sections that have ended, the phases of the last section that have ended, and the
-/// statements of its last phase.
+/// What the lines so far say, and how many statements the last section has at each port.
 #[derive(Drop)]
 pub struct Draft {
-    sections: LongList<Section>,
-    phases: LongList<Phase>,
-    statements: LongList<Statement>,
-    // How many statements the last section has at each port.
+    script: ScriptItems,
     counts: [u32; 8],
 }
 
 impl Draft {
-    pub fn new(alloc: Global) -> Draft
-        ensures nothing { script_so_far result ≡ empty_script }
-        ensures counted { IsCounted result }
+    /// Nothing, with room for so many bytes of statements.
+    pub fn with_room(alloc: Global, bytes: usize) -> Result<Draft, AllocError>
+        ensures nothing { IfOk result (λ draft. script_so_far draft ≡ empty_script) }
+        ensures counted { IfOk result (λ draft. IsCounted draft) }
     {
-        Draft {
-            sections: LongList::new(alloc),
-            phases: LongList::new(alloc),
-            statements: LongList::new(alloc),
+        let script = ScriptItems::with_room(alloc, bytes)?;
+        Ok(Draft {
+            script,
             counts: [0; 8],
-        }
+        })
     }
 
     // Adds a statement.
-    fn push(&mut self, statement: Statement) -> Result<(), ScriptFault>
-        requires port { NamesPort statement }
+    fn push(&mut self, statement: StatementRef<'_>) -> Result<(), ScriptFault>
+        requires port { NamesPort (statement_of statement) }
         requires counted { IsCounted self.old }
-        ensures ok { OnOk result
-            (script_so_far self.new ≡ with_item (script_so_far self.old) (Stated statement)) }
+        ensures ok { OnOk result (script_so_far self.new
+            ≡ with_item (script_so_far self.old) (Stated (statement_of statement.entry))) }
         ensures counted { OnOk result (IsCounted self.new) }
-        ensures room { OnOk result (HasStatementRoom (script_so_far self.old) statement) }
-        ensures err { IfErr result (IsNotAdded (script_so_far self.old) (Stated statement)) }
+        ensures room { OnOk result
+            (HasStatementRoom (script_so_far self.old) (statement_of statement.entry)) }
+        ensures err { IfErr result
+            (IsNotAdded (script_so_far self.old) (Stated (statement_of statement.entry))) }
     {
-        let Some(port) = event_port(&statement.event) else {
-            unreachable!()
-        };
-        let port = usize::from(port);
+        let port = usize::from(statement.event.port());
         let count = self.counts[port];
         if count >= MAX_STATEMENTS {
             return Err(ScriptFault::Bad {
@@ -63,7 +56,7 @@ impl Draft {
                 kind: ScriptKind::TooMany,
             });
         }
-        self.statements.push(statement)?;
+        self.script.push(ItemRef::Stated(statement))?;
         self.counts[port] = count + 1;
         Ok(())
     }
@@ -75,57 +68,43 @@ impl Draft {
             (script_so_far self.new ≡ with_item (script_so_far self.old) PhaseEnd) }
         ensures counted { OnOk result (IsCounted self.new) }
     {
-        let none = LongList::new(self.statements.allocator());
-        let statements = mem::replace(&mut self.statements, none);
-        self.phases.push(Phase { statements })?;
+        self.script.push(ItemRef::PhaseEnd)?;
         Ok(())
     }
 
     // Ends a section.
     fn end_section(&mut self) -> Result<(), AllocError>
-        requires { IsCounted self.old }
         ensures ok { OnOk result
             (script_so_far self.new ≡ with_item (script_so_far self.old) SectionEnd) }
         ensures counted { OnOk result (IsCounted self.new) }
     {
-        self.end_phase()?;
-        let none = LongList::new(self.phases.allocator());
-        let phases = mem::replace(&mut self.phases, none);
-        self.sections.push(Section { phases })?;
+        self.script.push(ItemRef::SectionEnd)?;
         self.counts = [0; 8];
         Ok(())
     }
 
     /// Adds what a line says.
-    pub fn add(&mut self, item: Item) -> Result<(), ScriptFault>
-        requires port { NamesPortIfStated item }
+    pub fn add(&mut self, item: ItemRef<'_>) -> Result<(), ScriptFault>
+        requires port { NamesPortIfStated (item_of item) }
         requires counted { IsCounted self.old }
         ensures ok { OnOk result
-            (script_so_far self.new ≡ with_item (script_so_far self.old) item) }
+            (script_so_far self.new ≡ with_item (script_so_far self.old) (item_of item.entry)) }
         ensures counted { OnOk result (IsCounted self.new) }
-        ensures room { OnOk result (HasRoomIfStated (script_so_far self.old) item) }
-        ensures err { IfErr result (IsNotAdded (script_so_far self.old) item) }
+        ensures room { OnOk result (HasRoomIfStated (script_so_far self.old) (item_of item.entry)) }
+        ensures err { IfErr result (IsNotAdded (script_so_far self.old) (item_of item.entry)) }
     {
         match item {
-            Item::Stated(statement) => self.push(statement)?,
-            Item::PhaseEnd => self.end_phase()?,
-            Item::SectionEnd => self.end_section()?,
+            ItemRef::Stated(statement) => self.push(statement)?,
+            ItemRef::PhaseEnd => self.end_phase()?,
+            ItemRef::SectionEnd => self.end_section()?,
         }
         Ok(())
     }
 
     /// The script, where no more lines follow.
-    pub fn finish(self) -> Result<Script, AllocError>
-        ensures { IfOk result (λ script. script ≡ finished (script_so_far self)) }
+    pub fn finish(self) -> ScriptItems
+        ensures { script_of result ≡ finished (script_so_far self) }
     {
-        let Draft {
-            mut sections,
-            mut phases,
-            statements,
-            counts: _,
-        } = self;
-        phases.push(Phase { statements })?;
-        sections.push(Section { phases })?;
-        Ok(Script { sections })
+        self.script
     }
 }

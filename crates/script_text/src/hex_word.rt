@@ -1,43 +1,55 @@
 //! HEX, the last word of a line.
+ghost use Rattle.std.specs.Prelude.{◌≤◌, length, OnOk};
 ghost use Rattle.script_text.specs.Readings.{IsReading};
 ghost use Rattle.script_text.specs.Statement.{IsHex, SpellsWithin};
 
 use crate::words::Words;
-use hex::FromHexError;
-use plain_lists::LongList;
-use std::alloc::{AllocError, Global};
+use std::alloc::AllocError;
 
-// Reads the digits of at most so many bytes.
-fn read_digits(
-    alloc: Global,
+// Has at least so many bytes of room. Memory is taken only where there have never been so many.
+fn make_room(room: &mut Vec<u8>, count: usize) -> Result<(), AllocError>
+    ensures { OnOk result (count ≤ length room.new.items) }
+{
+    if room.len() < count {
+        room.resize(count, 0)?;
+    }
+    Ok(())
+}
+
+// Reads the digits of at most so many bytes, which are put into `room`.
+fn read_digits<'a>(
+    room: &'a mut Vec<u8>,
     digits: &[u8],
     most: usize,
-) -> Result<Option<LongList<u8>>, AllocError>
-    ensures { IsReading (SpellsWithin most digits.now) result }
+) -> Result<Option<&'a [u8]>, AllocError>
+    ensures { IsReading (λ bytes. bytes.now) (SpellsWithin most digits.now) result }
 {
-    if digits.len() / 2 > most {
+    let count = digits.len() / 2;
+    if count > most {
         return Ok(None);
     }
-    match hex::decode(alloc, digits) {
-        Ok(bytes) => Ok(Some(LongList::from(bytes))),
-        Err(FromHexError::OutOfMemory) => Err(AllocError),
+    make_room(room, count)?;
+    let bytes = &mut room[..count];
+    match hex::decode_to_slice(digits, bytes) {
+        Ok(()) => Ok(Some(bytes)),
         Err(_) => Ok(None),
     }
 }
 
-// Reads the words that are left of a line as HEX of at most so many bytes.
-pub fn read_hex(
-    alloc: Global,
+// Reads the words that are left of a line as HEX of at most so many bytes, which are put into
+// `room`.
+pub fn read_hex<'a>(
+    room: &'a mut Vec<u8>,
     mut words: Words<'_>,
     most: usize,
-) -> Result<Option<LongList<u8>>, AllocError>
-    ensures { IsReading (IsHex most words.entry) result }
+) -> Result<Option<&'a [u8]>, AllocError>
+    ensures { IsReading (λ bytes. bytes.now) (IsHex most words.entry) result }
 {
     let Some(digits) = words.next() else {
-        return Ok(Some(LongList::new(alloc)));
+        return Ok(Some(&[]));
     };
     if words.next().is_some() {
         return Ok(None);
     }
-    read_digits(alloc, digits, most)
+    read_digits(room, digits, most)
 }

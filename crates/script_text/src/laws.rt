@@ -6,7 +6,7 @@ ghost use Rattle.script_text.specs.Ports.{statements_of};
 ghost use Rattle.script_text.specs.Script.{HasFirstFault, IsScript, IsScriptOrFaulty};
 ghost use Rattle.script_text.specs.Script.{script_of, statement_in};
 ghost use Rattle.script_text.specs.declared.fault.ScriptKind.{ScriptKind};
-ghost use Rattle.script_text.specs.declared.item.Item.{Item};
+ghost use Rattle.script_text.specs.Item.{Item};
 ghost use Rattle.script_text.specs.declared.line_set.LineSet.{LineSet};
 ghost use Rattle.script_text.specs.declared.line_set.LineSet.TheVariants.{PortOne};
 

@@ -1,24 +1,24 @@
 //! What one line of a script says.
 ghost use Rattle.std.specs.Prelude.{◌≡◌, ◌≢◌, [], ◌∷◌, MatchOption};
+ghost use Rattle.script_text.specs.Lent.{item_of};
 ghost use Rattle.script_text.specs.Line.{IsLine, is_admitted};
 ghost use Rattle.script_text.specs.Readings.{IsLineReading, IsReading};
 ghost use Rattle.script_text.specs.Words.{words};
 
-use crate::item::Item;
+use crate::item::{EventRef, ItemRef, StatementRef};
 use crate::statement::read_statement;
 use crate::words::Words;
 use crate::{LineSet, ScriptFault, ScriptKind};
-use card_core::{Event, Statement};
-use std::alloc::{AllocError, Global};
+use std::alloc::AllocError;
 
 // Whether an item may stand in a script.
-fn is_admitted(set: LineSet, item: &Item) -> bool
-    ensures { result ≡ is_admitted set item.now }
+fn is_admitted(set: LineSet, item: &ItemRef<'_>) -> bool
+    ensures { result ≡ is_admitted set (item_of item.now) }
 {
     match (set, item) {
         (LineSet::All, _) => true,
-        (LineSet::PortOne, Item::Stated(statement)) => match statement.event {
-            Event::Apdu { port, .. } => port == 1,
+        (LineSet::PortOne, ItemRef::Stated(statement)) => match statement.event {
+            EventRef::Apdu { port, .. } => port == 1,
             _ => false,
         },
         _ => false,
@@ -26,9 +26,9 @@ fn is_admitted(set: LineSet, item: &Item) -> bool
 }
 
 // The item, where no more words follow.
-fn alone(mut words: Words<'_>, item: Item) -> Option<Item>
+fn alone<'a>(mut words: Words<'_>, item: ItemRef<'a>) -> Option<ItemRef<'a>>
     ensures { MatchOption result (words.entry ≢ [])
-        (λ its. (words.entry ≡ []) × (its ≡ item)) }
+        (λ its. (words.entry ≡ []) × (its ≡ item.entry)) }
 {
     match words.next() {
         None => Some(item),
@@ -37,22 +37,22 @@ fn alone(mut words: Words<'_>, item: Item) -> Option<Item>
 }
 
 // Reads a line by its number, its first word and those behind it.
-fn read_item(
-    alloc: Global,
+fn read_item<'a>(
+    room: &'a mut Vec<u8>,
     number: u32,
     first: &[u8],
     words: Words<'_>,
-) -> Result<Option<Item>, AllocError>
-    ensures { IsReading (IsLine number (first.now ∷ words.entry)) result }
+) -> Result<Option<ItemRef<'a>>, AllocError>
+    ensures { IsReading item_of (IsLine number (first.now ∷ words.entry)) result }
 {
     if first == b"phase".as_slice() {
-        return Ok(alone(words, Item::PhaseEnd));
+        return Ok(alone(words, ItemRef::PhaseEnd));
     }
     if first == b"power".as_slice() {
-        return Ok(alone(words, Item::SectionEnd));
+        return Ok(alone(words, ItemRef::SectionEnd));
     }
-    match read_statement(alloc, first, words)? {
-        Some(event) => Ok(Some(Item::Stated(Statement {
+    match read_statement(room, first, words)? {
+        Some(event) => Ok(Some(ItemRef::Stated(StatementRef {
             line: number,
             event,
         }))),
@@ -60,14 +60,14 @@ fn read_item(
     }
 }
 
-/// Reads a line, without its end, by its number. Nothing is returned for a line that is passed
-/// over.
-pub fn read_line(
-    alloc: Global,
+/// Reads a line, without its end, by its number. The bytes that it spells are put into `room`.
+/// Nothing is returned for a line that is passed over.
+pub fn read_line<'a>(
+    room: &'a mut Vec<u8>,
     set: LineSet,
     number: u32,
     line: &[u8],
-) -> Result<Option<Item>, ScriptFault>
+) -> Result<Option<ItemRef<'a>>, ScriptFault>
     ensures { IsLineReading set number (words line.now) result }
 {
     let mut words = Words(line);
@@ -77,7 +77,7 @@ pub fn read_line(
     if first.starts_with(b"#") {
         return Ok(None);
     }
-    match read_item(alloc, number, first, words)? {
+    match read_item(room, number, first, words)? {
         Some(item) if is_admitted(set, &item) => Ok(Some(item)),
         _ => Err(ScriptFault::Bad {
             line: number,

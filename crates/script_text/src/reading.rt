@@ -1,19 +1,19 @@
 //! The reader of scripts.
-ghost use Rattle.std.specs.Prelude.{◌≡◌, ℕ, ◌-◌, ◌^◌, ◌<◌, ◌≤◌, ◌⊎◌, length, IfOk, Ok, Err};
+ghost use Rattle.std.specs.Prelude.{◌≡◌, ℕ, ◌-◌, ◌^◌, ◌<◌, ◌≤◌, ◌⊎◌, length, IfOk, Err};
 ghost use Rattle.std.specs.List.{AllByRecursion};
 ghost use Rattle.card_core.specs.declared.script.Script.{Script};
 ghost use Rattle.script_text.specs.Ports.{NamesPort, script_piece_bytes, statements_of};
-ghost use Rattle.script_text.specs.Readings.{IsTextReading};
-ghost use Rattle.script_text.specs.Script.{HasFirstFault, IsScript, line_of_byte};
+ghost use Rattle.script_text.specs.Readings.{IsReadAs, IsTextReading};
+ghost use Rattle.script_text.specs.Script.{HasFirstFault, IsScript, line_of_byte, script_of};
 ghost use Rattle.script_text.specs.declared.fault.ScriptFault.{ScriptFault};
 ghost use Rattle.script_text.specs.declared.fault.ScriptKind.{ScriptKind};
 ghost use Rattle.script_text.specs.declared.line_set.LineSet.TheVariants.{All};
 
 use crate::draft::Draft;
 use crate::line::read_line;
+use crate::script_items::ScriptItems;
 use crate::{LineSet, ScriptFault, ScriptKind};
 use bstr::ByteSlice;
-use card_core::Script;
 use std::alloc::Global;
 
 /// The most bytes that a script may have.
@@ -30,15 +30,16 @@ fn line_of_byte(bytes: &[u8], place: usize) -> u32
 }
 
 // Reads the lines of a script that is not too long.
-fn read_lines(alloc: Global, set: LineSet, bytes: &[u8]) -> Result<Script, ScriptFault>
+fn read_lines(alloc: Global, set: LineSet, bytes: &[u8]) -> Result<ScriptItems, ScriptFault>
     requires { length bytes.now ≤ 8388608 }
     ensures { IsTextReading set bytes.now result }
 {
-    let mut draft = Draft::new(alloc);
+    let mut draft = Draft::with_room(alloc, bytes.len() / 2)?;
+    let mut room = Vec::new(alloc);
     let mut number = 0;
     'lines: for text in bytes.lines() {
         number += 1;
-        match read_line(alloc, set, number, text) {
+        match read_line(&mut room, set, number, text) {
             Ok(None) => {}
             Ok(Some(item)) => match draft.add(item) {
                 Ok(()) => {}
@@ -47,31 +48,28 @@ fn read_lines(alloc: Global, set: LineSet, bytes: &[u8]) -> Result<Script, Scrip
             Err(fault) => return Err(fault),
         }
     }
-    match draft.finish() {
-        Ok(script) => Ok(script),
-        Err(_) => Err(ScriptFault::NoMemory),
-    }
+    Ok(draft.finish())
 }
 
-/// Reads a script that has lines of this set alone, in one pass. Memory is taken for its statements
-/// and the bytes that they have.
+/// Reads a script that has lines of this set alone, in one pass. The bytes of its statements lie in
+/// one pool, whose memory is taken once: no line takes an allocation of its own.
 ///
 /// A text that is no such script has one first fault, which is returned: more bytes than a script
 /// may have before any line, and then the first line that is outside the language, or a statement
 /// past the 20,000 that a port may have in a section.
-pub fn read_script_of(alloc: Global, set: LineSet, bytes: &[u8]) -> Result<Script, ScriptFault>
+pub fn read_script_of(alloc: Global, set: LineSet, bytes: &[u8]) -> Result<ScriptItems, ScriptFault>
     // What is read is the script of the text, and a fault is its first one.
-    ensures script { IfOk result (λ script. IsScript set bytes.now script) }
+    ensures script { IfOk result (λ items. IsScript set bytes.now (script_of items)) }
     ensures fault { (line : ℕ) (kind : ScriptKind) → result ≡ Err (ScriptFault.Bad line kind)
         → HasFirstFault set bytes.now line kind }
 
     // Its statements are at the eight ports, and its pieces are short together.
-    ensures ports { IfOk result (λ script. AllByRecursion NamesPort (statements_of script)) }
-    ensures pieces { IfOk result (λ script. script_piece_bytes script < 2 ^ 32) }
+    ensures ports { IfOk result
+        (λ items. AllByRecursion NamesPort (statements_of (script_of items))) }
+    ensures pieces { IfOk result (λ items. script_piece_bytes (script_of items) < 2 ^ 32) }
 
     // A script is read and a fault returned, unless memory runs out.
-    ensures read { (script : Script) → IsScript set bytes.now script
-        → (result ≡ Ok script) ⊎ (result ≡ Err ScriptFault.NoMemory) }
+    ensures read { (script : Script) → IsScript set bytes.now script → IsReadAs script result }
     ensures refused { (line : ℕ) (kind : ScriptKind) → HasFirstFault set bytes.now line kind
         → (result ≡ Err (ScriptFault.Bad line kind)) ⊎ (result ≡ Err ScriptFault.NoMemory) }
 {
@@ -85,14 +83,14 @@ pub fn read_script_of(alloc: Global, set: LineSet, bytes: &[u8]) -> Result<Scrip
 }
 
 /// Reads a script of the whole language, as [`read_script_of`] does.
-pub fn read_script(alloc: Global, bytes: &[u8]) -> Result<Script, ScriptFault>
-    ensures script { IfOk result (λ script. IsScript All bytes.now script) }
+pub fn read_script(alloc: Global, bytes: &[u8]) -> Result<ScriptItems, ScriptFault>
+    ensures script { IfOk result (λ items. IsScript All bytes.now (script_of items)) }
     ensures fault { (line : ℕ) (kind : ScriptKind) → result ≡ Err (ScriptFault.Bad line kind)
         → HasFirstFault All bytes.now line kind }
-    ensures ports { IfOk result (λ script. AllByRecursion NamesPort (statements_of script)) }
-    ensures pieces { IfOk result (λ script. script_piece_bytes script < 2 ^ 32) }
-    ensures read { (script : Script) → IsScript All bytes.now script
-        → (result ≡ Ok script) ⊎ (result ≡ Err ScriptFault.NoMemory) }
+    ensures ports { IfOk result
+        (λ items. AllByRecursion NamesPort (statements_of (script_of items))) }
+    ensures pieces { IfOk result (λ items. script_piece_bytes (script_of items) < 2 ^ 32) }
+    ensures read { (script : Script) → IsScript All bytes.now script → IsReadAs script result }
     ensures refused { (line : ℕ) (kind : ScriptKind) → HasFirstFault All bytes.now line kind
         → (result ≡ Err (ScriptFault.Bad line kind)) ⊎ (result ≡ Err ScriptFault.NoMemory) }
 {

@@ -1,12 +1,14 @@
-//! The lines that are statements.
+//! The lines that are statements. The bytes that a line spells are put into `room`, which is used
+//! again for the next line.
 ghost use Rattle.std.specs.Prelude.{◌≡◌, [], ◌∷◌, codes};
-ghost use Rattle.script_text.specs.Readings.{IsFound, IsReading};
+ghost use Rattle.script_text.specs.Lent.{event_of, step_of};
+ghost use Rattle.script_text.specs.Readings.{IsFound, IsFoundAs, IsReading};
 ghost use Rattle.script_text.specs.Statement.{IsPort, IsStatement, IsStep};
 
 use crate::hex_word::read_hex;
+use crate::item::{EventRef, LoadStepRef};
 use crate::words::Words;
-use card_core::{Event, LoadStep};
-use std::alloc::{AllocError, Global};
+use std::alloc::AllocError;
 
 /// The most bytes that a command may have.
 pub const MAX_APDU_BYTES: usize = 1_024;
@@ -38,8 +40,11 @@ fn read_number_colon(word: &[u8]) -> Option<u8>
 }
 
 // Reads the words behind `port`.
-fn read_port(alloc: Global, mut words: Words<'_>) -> Result<Option<Event>, AllocError>
-    ensures { IsReading (IsStatement (codes "port" ∷ words.entry)) result }
+fn read_port<'a>(
+    room: &'a mut Vec<u8>,
+    mut words: Words<'_>,
+) -> Result<Option<EventRef<'a>>, AllocError>
+    ensures { IsReading event_of (IsStatement (codes "port" ∷ words.entry)) result }
 {
     let Some(number) = words.next() else {
         return Ok(None);
@@ -47,91 +52,103 @@ fn read_port(alloc: Global, mut words: Words<'_>) -> Result<Option<Event>, Alloc
     let Some(port) = read_number_colon(number) else {
         return Ok(None);
     };
-    match read_hex(alloc, words, MAX_APDU_BYTES)? {
-        Some(bytes) => Ok(Some(Event::Apdu { port, bytes })),
+    match read_hex(room, words, MAX_APDU_BYTES)? {
+        Some(bytes) => Ok(Some(EventRef::Apdu { port, bytes })),
         None => Ok(None),
     }
 }
 
 // Reads the words behind `reset`.
-fn read_reset(mut words: Words<'_>) -> Option<Event>
-    ensures { IsFound (IsStatement (codes "reset" ∷ words.entry)) result }
+fn read_reset<'a>(mut words: Words<'_>) -> Option<EventRef<'a>>
+    ensures { IsFoundAs event_of (IsStatement (codes "reset" ∷ words.entry)) result }
 {
     let port = words.next().and_then(read_number)?;
     if words.next().is_some() {
         return None;
     }
-    Some(Event::Reset { port })
+    Some(EventRef::Reset { port })
 }
 
 // Reads the words behind `begin`.
-fn read_begin(alloc: Global, words: Words<'_>) -> Result<Option<LoadStep>, AllocError>
-    ensures { IsReading (IsStep (codes "begin" ∷ words.entry)) result }
+fn read_begin<'a>(
+    room: &'a mut Vec<u8>,
+    words: Words<'_>,
+) -> Result<Option<LoadStepRef<'a>>, AllocError>
+    ensures { IsReading step_of (IsStep (codes "begin" ∷ words.entry)) result }
 {
-    match read_hex(alloc, words, MAX_METADATA_BYTES)? {
-        Some(metadata) => Ok(Some(LoadStep::Begin(metadata))),
+    match read_hex(room, words, MAX_METADATA_BYTES)? {
+        Some(metadata) => Ok(Some(LoadStepRef::Begin(metadata))),
         None => Ok(None),
     }
 }
 
 // Reads the words behind `piece`.
-fn read_piece(alloc: Global, words: Words<'_>) -> Result<Option<LoadStep>, AllocError>
-    ensures { IsReading (IsStep (codes "piece" ∷ words.entry)) result }
+fn read_piece<'a>(
+    room: &'a mut Vec<u8>,
+    words: Words<'_>,
+) -> Result<Option<LoadStepRef<'a>>, AllocError>
+    ensures { IsReading step_of (IsStep (codes "piece" ∷ words.entry)) result }
 {
-    match read_hex(alloc, words, MAX_PIECE_BYTES)? {
-        Some(bytes) => Ok(Some(LoadStep::Piece(bytes))),
+    match read_hex(room, words, MAX_PIECE_BYTES)? {
+        Some(bytes) => Ok(Some(LoadStepRef::Piece(bytes))),
         None => Ok(None),
     }
 }
 
 // Reads the words behind `load N`.
-fn read_step(alloc: Global, mut words: Words<'_>) -> Result<Option<LoadStep>, AllocError>
-    ensures { IsReading (IsStep words.entry) result }
+fn read_step<'a>(
+    room: &'a mut Vec<u8>,
+    mut words: Words<'_>,
+) -> Result<Option<LoadStepRef<'a>>, AllocError>
+    ensures { IsReading step_of (IsStep words.entry) result }
 {
     let Some(step) = words.next() else {
         return Ok(None);
     };
     if step == b"begin".as_slice() {
-        return read_begin(alloc, words);
+        return read_begin(room, words);
     }
     if step == b"piece".as_slice() {
-        return read_piece(alloc, words);
+        return read_piece(room, words);
     }
     if step == b"end".as_slice() && words.next().is_none() {
-        return Ok(Some(LoadStep::End));
+        return Ok(Some(LoadStepRef::End));
     }
     Ok(None)
 }
 
 // Reads the words behind `load`.
-fn read_load(alloc: Global, mut words: Words<'_>) -> Result<Option<Event>, AllocError>
-    ensures { IsReading (IsStatement (codes "load" ∷ words.entry)) result }
+fn read_load<'a>(
+    room: &'a mut Vec<u8>,
+    mut words: Words<'_>,
+) -> Result<Option<EventRef<'a>>, AllocError>
+    ensures { IsReading event_of (IsStatement (codes "load" ∷ words.entry)) result }
 {
     let Some(port) = words.next().and_then(read_number) else {
         return Ok(None);
     };
-    match read_step(alloc, words)? {
-        Some(step) => Ok(Some(Event::Load { port, step })),
+    match read_step(room, words)? {
+        Some(step) => Ok(Some(EventRef::Load { port, step })),
         None => Ok(None),
     }
 }
 
 // Reads a statement by its first word and those behind it.
-pub fn read_statement(
-    alloc: Global,
+pub fn read_statement<'a>(
+    room: &'a mut Vec<u8>,
     first: &[u8],
     words: Words<'_>,
-) -> Result<Option<Event>, AllocError>
-    ensures { IsReading (IsStatement (first.now ∷ words.entry)) result }
+) -> Result<Option<EventRef<'a>>, AllocError>
+    ensures { IsReading event_of (IsStatement (first.now ∷ words.entry)) result }
 {
     if first == b"port".as_slice() {
-        return read_port(alloc, words);
+        return read_port(room, words);
     }
     if first == b"reset".as_slice() {
         return Ok(read_reset(words));
     }
     if first == b"load".as_slice() {
-        return read_load(alloc, words);
+        return read_load(room, words);
     }
     Ok(None)
 }

@@ -6,63 +6,56 @@ mod rows;
 mod scripts;
 
 use super::*;
-use card_core::{Event, LoadStep, Phase, Script, Section, Statement};
 use std::alloc::{AllocError, Global};
 use std::test::Fail;
 
 // A statement by its line, its port and what it does.
-fn shown_statement(alloc: Global, statement: &Statement) -> Result<String, AllocError> {
+fn shown_statement(alloc: Global, statement: StatementRef<'_>) -> Result<String, AllocError> {
     let line = statement.line;
-    match &statement.event {
-        Event::Apdu { port, bytes } => {
-            let apdu = hex::encode_upper(alloc, bytes.as_slice())?;
+    match statement.event {
+        EventRef::Apdu { port, bytes } => {
+            let apdu = hex::encode_upper(alloc, bytes)?;
             format!(in alloc; " {line} port {port} {apdu},")
         }
-        Event::Reset { port } => format!(in alloc; " {line} reset {port},"),
-        Event::Load { port, step } => shown_step(alloc, line, *port, step),
-        Event::Power => format!(in alloc; " {line} power,"),
+        EventRef::Reset { port } => format!(in alloc; " {line} reset {port},"),
+        EventRef::Load { port, step } => shown_step(alloc, line, port, step),
     }
 }
 
-fn shown_step(alloc: Global, line: u32, port: u8, step: &LoadStep) -> Result<String, AllocError> {
+fn shown_step(
+    alloc: Global,
+    line: u32,
+    port: u8,
+    step: LoadStepRef<'_>,
+) -> Result<String, AllocError> {
     match step {
-        LoadStep::Begin(bytes) => {
-            let metadata = hex::encode_upper(alloc, bytes.as_slice())?;
+        LoadStepRef::Begin(bytes) => {
+            let metadata = hex::encode_upper(alloc, bytes)?;
             format!(in alloc; " {line} load {port} begin {metadata},")
         }
-        LoadStep::Piece(bytes) => {
-            let piece = hex::encode_upper(alloc, bytes.as_slice())?;
+        LoadStepRef::Piece(bytes) => {
+            let piece = hex::encode_upper(alloc, bytes)?;
             format!(in alloc; " {line} load {port} piece {piece},")
         }
-        LoadStep::End => format!(in alloc; " {line} load {port} end,"),
+        LoadStepRef::End => format!(in alloc; " {line} load {port} end,"),
     }
-}
-
-fn push_phase(alloc: Global, out: &mut String, phase: &Phase) -> Result<(), AllocError> {
-    out.push_str("(")?;
-    for statement in phase.statements.as_slice() {
-        let text = shown_statement(alloc, statement)?;
-        out.push_str(text.as_str())?;
-    }
-    out.push_str(")")?;
-    Ok(())
-}
-
-fn push_section(alloc: Global, out: &mut String, section: &Section) -> Result<(), AllocError> {
-    out.push_str("[")?;
-    for phase in section.phases.as_slice() {
-        push_phase(alloc, out, phase)?;
-    }
-    out.push_str("]")?;
-    Ok(())
 }
 
 // A script by its sections in brackets and their phases in parentheses.
-fn shown_script(alloc: Global, script: &Script) -> Result<String, AllocError> {
+fn shown_script(alloc: Global, script: &ScriptItems) -> Result<String, AllocError> {
     let mut out = String::new(alloc);
-    for section in script.sections.as_slice() {
-        push_section(alloc, &mut out, section)?;
+    out.push_str("[(")?;
+    for index in 0..script.len() {
+        match script.item(index) {
+            ItemRef::Stated(statement) => {
+                let text = shown_statement(alloc, statement)?;
+                out.push_str(text.as_str())?;
+            }
+            ItemRef::PhaseEnd => out.push_str(")(")?,
+            ItemRef::SectionEnd => out.push_str(")][(")?,
+        }
     }
+    out.push_str(")]")?;
     Ok(out)
 }
 

@@ -5,7 +5,7 @@ ghost use Rattle.record_codec.specs.IsDurable.{IsDurable};
 use super::scripts::{Further, Part, push_metadata, push_package, script_of};
 use super::*;
 use bstr::ByteSlice;
-use card_core::{Entry, World, may_come, pure_run};
+use card_core::{Entry, Event, World, may_come, pure_run};
 use plain_lists::LongList;
 use port_table::PortMode;
 use record_codec::{Durable, Record};
@@ -38,19 +38,13 @@ fn events_of(alloc: Global, text: &str) -> Result<Vec<Event>, Fail> {
         return Err(Fail::from("a script"));
     };
     let mut events = Vec::new(alloc);
-    for section in Vec::from(script.sections) {
-        for phase in Vec::from(section.phases) {
-            push_events(&mut events, phase)?;
+    for index in 0..script.len() {
+        match script.item(index) {
+            ItemRef::Stated(statement) => events.push(statement.event.to_event(alloc)?)?,
+            _ => {}
         }
     }
     Ok(events)
-}
-
-fn push_events(events: &mut Vec<Event>, phase: Phase) -> Result<(), AllocError> {
-    for statement in Vec::from(phase.statements) {
-        events.push(statement.event)?;
-    }
-    Ok(())
 }
 
 // A card after a script.

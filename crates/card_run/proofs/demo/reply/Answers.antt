@@ -1,12 +1,13 @@
-use Rattle.std.proofs.Common.{◌≡◌, ◌++◌, ℕ, List, [], Some, None, inr, ap, subst, sym, ◌∙◌}
+use Rattle.std.proofs.Common.{◌≡◌, Some, None, inr, ap, subst, sym}
 use Rattle.apdu_codec.specs.Command.{Apdu, apdu_of}
+use Rattle.apdu_codec.specs.declared.answers.Answer.{Answer}
+use Rattle.apdu_codec.specs.Answer.{status_alone}
 use Rattle.apdu_codec.specs.declared.status.Sw.{Sw}
 use Rattle.profile_card.specs.Card.{Card, outcome_at}
 use Rattle.profile_card.specs.CardState.{card_of}
 use Rattle.profile_card.specs.Commands.{decision}
 use Rattle.profile_card.specs.Step.{Outcome, Steps}
 use Rattle.profile_card.specs.Step.Event.{Command}
-use Rattle.card_run.specs.Demo.{answer_line}
 use Rattle.card_run.proofs.demo.reply.Goals as goal
 
 -- what was decided was carried out
@@ -18,12 +19,11 @@ returns-in_ok-reserve-in-Ok-clause-given c =
     let outcome : Outcome = record { answer = Some decided.answer; card = card_of c.settle.new.self; change = decided.change } in
     let step = c.settle.ensures.step c.args.bytes.now command c.in-Ok.ensures.spelled
     (subst (λ (card : Card). outcome_at card decided ≡ decision card command) (sym same) c.decide_into.ensures.decision) in
-    let line : c.push_answer.new.text.items ≡ c.args.text.now.items ++ answer_line c.args.number decided.answer =
-    c.in_ok-push_answer-in-Ok.ensures ∙ ap (λ (body : List ℕ). c.args.text.now.items ++ answer_line c.args.number (record { body = body; sw = decided.answer.sw })) c.as_slice-body.ensures.value in
-    (decided.answer, (decided.change, subst (λ (card : Card). Steps card (Command c.args.bytes.now) outcome) same step), line)
+    (decided.answer, (decided.change, subst (λ (card : Card). Steps card (Command c.args.bytes.now) outcome) same step), c.in_ok-push_answer_line-in-Ok.ensures)
 
 -- the refusal of bytes that spell no command
-pub returns-in_ok-push_answer-in-Err-clause-given : goal.returns-in_ok-push_answer-in-Err-clause-given
-returns-in_ok-push_answer-in-Err-clause-given c =
+pub returns-in_ok-push_answer_line-in-Err-clause-given : goal.returns-in_ok-push_answer_line-in-Err-clause-given
+returns-in_ok-push_answer_line-in-Err-clause-given c =
     let card = card_of c.args.card.now in
-    (record { body = []; sw = c.in-Err.sw }, (None, inr (c.in-Err.ensures.none, ap (λ (sw : Sw). record { answer = Some (record { body = []; sw = sw }); card = card; change = None }) c.in-Err.ensures.refused)), c.in_ok-push_answer-in-Err.ensures)
+    let answer : Answer = status_alone c.in-Err.sw in
+    (answer, (None, inr (c.in-Err.ensures.none, ap (λ (sw : Sw). record { answer = Some (status_alone sw); card = card; change = None }) c.in-Err.ensures.refused)), rw c.status.ensures at c.in_ok-push_answer_line-in-Err.ensures)

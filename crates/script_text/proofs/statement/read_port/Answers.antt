@@ -1,6 +1,5 @@
-use Rattle.std.proofs.Common.{◌≡◌, List, ℕ, ◌∷◌, codes, subst, sym}
-use Rattle.card_core.specs.declared.event.Event.{Event}
-use Rattle.script_text.specs.Statement.{IsHex, IsStatement}
+use Rattle.std.proofs.Common.{List, ℕ}
+use Rattle.script_text.specs.Statement.{IsHex}
 use Rattle.script_text.proofs.StatementLemmas.{no_port_line}
 use Rattle.script_text.proofs.statement.read_port.Goals as goal
 
