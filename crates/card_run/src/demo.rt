@@ -13,7 +13,7 @@ ghost use Rattle.profile_card.specs.Step.{AnswersWith};
 ghost use Rattle.script_text.specs.Commands.{IsCommandScript};
 ghost use Rattle.script_text.specs.Ports.{statements_of};
 ghost use Rattle.script_text.specs.Item.Item.{Stated};
-ghost use Rattle.script_text.specs.Lent.{event_of, item_of};
+ghost use Rattle.script_text.specs.Lent.{event_of, lent_item};
 ghost use Rattle.script_text.specs.Script.{IsScript, script_of, statement_in};
 ghost use Rattle.script_text.specs.declared.line_set.LineSet.TheVariants.{PortOne};
 ghost use Rattle.card_run.specs.Demo.{IsAnswerText, IsDemo, IsRun, WritesPrefix, answer_entry};
@@ -132,8 +132,8 @@ fn command_of<'a>(event: EventRef<'a>) -> &'a [u8]
 
 // The bytes that an item sends as a command, where it is a statement.
 fn command_in<'a>(item: ItemRef<'a>) -> Option<&'a [u8]>
-    ensures { MatchOption result (statement_in (item_of item.entry) ≡ [])
-        (λ bytes. (statement : Statement) × (item_of item.entry ≡ Stated statement)
+    ensures { MatchOption result (statement_in (lent_item item.entry) ≡ [])
+        (λ bytes. (statement : Statement) × (lent_item item.entry ≡ Stated statement)
         × (bytes.now ≡ command_of statement.event)) }
 {
     match item {

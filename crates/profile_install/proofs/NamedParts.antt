@@ -13,7 +13,7 @@ use Rattle.package_reader.specs.declared.part.Part.TheVariants.{Head, Bytes, Clo
 use Rattle.profile_install.specs.ElementResult.{then_with}
 use Rattle.profile_install.specs.Header.{is_header_whole, no_header_fields, with_header_field}
 use Rattle.profile_install.specs.Management.{fresh_standing, with_file_made, with_step}
-use Rattle.profile_install.specs.NamedFiles.{IsNamed, IsOfStep, IsOfTemplate, NamesFile, template_of}
+use Rattle.profile_install.specs.NamedFiles.{IsNamed, IsOfStep, IsOfTemplate, NamesFile, listed_template}
 use Rattle.profile_install.specs.Package.{AllWhole, AreParts, PackageGives, after_part, after_turns, broken, closed, constructed_begins, element_with_fault, fresh_work, going, headed, heading, is_gathering, is_used_up, progress_after, step_settled, valued}
 use Rattle.profile_install.specs.PinEntry.{no_pin_fields, pin_told, with_pin_field}
 use Rattle.profile_install.specs.PukEntry.{no_puk_fields, puk_told, with_puk_field}
@@ -53,7 +53,7 @@ module _ (P : List ℕ → Type 0) where
 
   -- what a template names where its files are listed
   abbrev NamesAt : Spot → Type 0
-  NamesAt spot = (template : ℕ) → template_of spot ≡ Some template → (path : List ℕ)
+  NamesAt spot = (template : ℕ) → listed_template spot ≡ Some template → (path : List ℕ)
       → IsOfTemplate template path → P path
 
   placed_all : (state : State) (good : Bool) (draft : Draft) (spot : Spot)

@@ -35,27 +35,27 @@ pub record IsOfStep (directory parameters path : List ℕ) : Type 0 where
   pub at : path ≡ directory ++ id ∷ []
 
 -- the template whose files are listed where a package stands
-abbrev pub template_of : Spot → Option ℕ
-template_of Start = None
-template_of Elements = None
-template_of Ended = None
-template_of (Header fields) = None
-template_of (Template list) = Some list.template
-template_of (File list parts) = Some list.template
-template_of (Descriptor list) = Some list.template
-template_of (Lists kind seen) = None
-template_of Steps = None
-template_of NewFile = None
-template_of Puks = None
-template_of (PukEntry fields) = None
-template_of Pins = None
-template_of (PinEntry fields) = None
+abbrev pub listed_template : Spot → Option ℕ
+listed_template Start = None
+listed_template Elements = None
+listed_template Ended = None
+listed_template (Header fields) = None
+listed_template (Template list) = Some list.template
+listed_template (File list parts) = Some list.template
+listed_template (Descriptor list) = Some list.template
+listed_template (Lists kind seen) = None
+listed_template Steps = None
+listed_template NewFile = None
+listed_template Puks = None
+listed_template (PukEntry fields) = None
+listed_template Pins = None
+listed_template (PinEntry fields) = None
 
 -- a file is named where a package stands: in the list of its template, or by the control
 -- parameters of a step
 abbrev pub NamesFile : State → List ℕ → Type 0
 NamesFile state path =
-    ((template : ℕ) × (template_of state.spot ≡ Some template) × IsOfTemplate template path)
+    ((template : ℕ) × (listed_template state.spot ≡ Some template) × IsOfTemplate template path)
     ⊎ ((state.spot ≡ NewFile) × IsOfStep state.standing.directory state.gathered path)
 
 -- a file is named somewhere in a package

@@ -56,8 +56,8 @@ abbrev pub script_so_far : Draft → OpenScript
 script_so_far draft = fold with_item empty_script draft.script
 
 -- the statements of the last section are counted at each port
-abbrev pub IsCounted : Draft → Type 0
-IsCounted draft = (port : ℕ) → port < 8
+abbrev pub CountsStatements : Draft → Type 0
+CountsStatements draft = (port : ℕ) → port < 8
     → slice_index draft.counts port ≡ count_at port (open_section (script_so_far draft))
 
 abbrev pub NamesPortIfStated : Item → Type 0

@@ -24,7 +24,7 @@ event_of (EventRef.Load port step) = Load port (step_of step)
 abbrev pub statement_of : StatementRef → Statement
 statement_of lent = record { line = lent.line; event = event_of lent.event }
 
-abbrev pub item_of : ItemRef → Item
-item_of (ItemRef.Stated lent) = Stated (statement_of lent)
-item_of ItemRef.PhaseEnd = PhaseEnd
-item_of ItemRef.SectionEnd = SectionEnd
+abbrev pub lent_item : ItemRef → Item
+lent_item (ItemRef.Stated lent) = Stated (statement_of lent)
+lent_item ItemRef.PhaseEnd = PhaseEnd
+lent_item ItemRef.SectionEnd = SectionEnd

@@ -3,7 +3,7 @@ use Rattle.std.specs.Prelude.{◌≡◌, ℕ, ⊤, List, Option, Some, None, Res
 use Rattle.card_core.specs.declared.script.Script.{Script}
 use Rattle.script_text.specs.Line.{IsFaulty, Says}
 use Rattle.script_text.specs.Item.{Item}
-use Rattle.script_text.specs.Lent.{item_of}
+use Rattle.script_text.specs.Lent.{lent_item}
 use Rattle.script_text.specs.Script.{HasFirstFault, IsScript, script_of}
 use Rattle.script_text.specs.Words.{IsPassedOver}
 use Rattle.script_text.specs.declared.fault.ScriptFault.{ScriptFault}
@@ -31,7 +31,7 @@ IsReading value_of P (Err error) = ⊤
 -- what a line of this number and these words says, unless memory runs out
 abbrev pub IsLineReading :
     LineSet → ℕ → List (List ℕ) → Result (Option ItemRef) ScriptFault → Type 0
-IsLineReading set number its (Ok (Some lent)) = Says set number its (item_of lent)
+IsLineReading set number its (Ok (Some lent)) = Says set number its (lent_item lent)
 IsLineReading set number its (Ok None) = IsPassedOver its
 IsLineReading set number its (Err (Bad line kind)) =
     (line ≡ number) × (kind ≡ Grammar) × IsFaulty set number its

@@ -1,10 +1,10 @@
 //! A script as far as it has been read.
 ghost use Rattle.std.specs.Prelude.{◌≡◌, OnOk, IfOk, IfErr};
-ghost use Rattle.script_text.specs.Draft.{HasRoomIfStated, HasStatementRoom, IsCounted, IsNotAdded};
+ghost use Rattle.script_text.specs.Draft.{HasRoomIfStated, HasStatementRoom, CountsStatements, IsNotAdded};
 ghost use Rattle.script_text.specs.Draft.{NamesPortIfStated, empty_script, finished};
 ghost use Rattle.script_text.specs.Draft.{script_so_far, with_item};
 ghost use Rattle.script_text.specs.Item.Item.{Stated, PhaseEnd, SectionEnd};
-ghost use Rattle.script_text.specs.Lent.{item_of, statement_of};
+ghost use Rattle.script_text.specs.Lent.{lent_item, statement_of};
 ghost use Rattle.script_text.specs.Ports.{NamesPort};
 ghost use Rattle.script_text.specs.Script.{script_of};
 
@@ -27,7 +27,7 @@ impl Draft {
     /// Nothing, with room for so many bytes of statements.
     pub fn with_room(alloc: Global, bytes: usize) -> Result<Draft, AllocError>
         ensures nothing { IfOk result (λ draft. script_so_far draft ≡ empty_script) }
-        ensures counted { IfOk result (λ draft. IsCounted draft) }
+        ensures counted { IfOk result (λ draft. CountsStatements draft) }
     {
         let script = ScriptItems::with_room(alloc, bytes)?;
         Ok(Draft {
@@ -39,10 +39,10 @@ impl Draft {
     // Adds a statement.
     fn push(&mut self, statement: StatementRef<'_>) -> Result<(), ScriptFault>
         requires port { NamesPort (statement_of statement) }
-        requires counted { IsCounted self.old }
+        requires counted { CountsStatements self.old }
         ensures ok { OnOk result (script_so_far self.new
             ≡ with_item (script_so_far self.old) (Stated (statement_of statement.entry))) }
-        ensures counted { OnOk result (IsCounted self.new) }
+        ensures counted { OnOk result (CountsStatements self.new) }
         ensures room { OnOk result
             (HasStatementRoom (script_so_far self.old) (statement_of statement.entry)) }
         ensures err { IfErr result
@@ -63,10 +63,10 @@ impl Draft {
 
     // Ends a phase.
     fn end_phase(&mut self) -> Result<(), AllocError>
-        requires { IsCounted self.old }
+        requires { CountsStatements self.old }
         ensures ok { OnOk result
             (script_so_far self.new ≡ with_item (script_so_far self.old) PhaseEnd) }
-        ensures counted { OnOk result (IsCounted self.new) }
+        ensures counted { OnOk result (CountsStatements self.new) }
     {
         self.script.push(ItemRef::PhaseEnd)?;
         Ok(())
@@ -76,7 +76,7 @@ impl Draft {
     fn end_section(&mut self) -> Result<(), AllocError>
         ensures ok { OnOk result
             (script_so_far self.new ≡ with_item (script_so_far self.old) SectionEnd) }
-        ensures counted { OnOk result (IsCounted self.new) }
+        ensures counted { OnOk result (CountsStatements self.new) }
     {
         self.script.push(ItemRef::SectionEnd)?;
         self.counts = [0; 8];
@@ -85,13 +85,13 @@ impl Draft {
 
     /// Adds what a line says.
     pub fn add(&mut self, item: ItemRef<'_>) -> Result<(), ScriptFault>
-        requires port { NamesPortIfStated (item_of item) }
-        requires counted { IsCounted self.old }
+        requires port { NamesPortIfStated (lent_item item) }
+        requires counted { CountsStatements self.old }
         ensures ok { OnOk result
-            (script_so_far self.new ≡ with_item (script_so_far self.old) (item_of item.entry)) }
-        ensures counted { OnOk result (IsCounted self.new) }
-        ensures room { OnOk result (HasRoomIfStated (script_so_far self.old) (item_of item.entry)) }
-        ensures err { IfErr result (IsNotAdded (script_so_far self.old) (item_of item.entry)) }
+            (script_so_far self.new ≡ with_item (script_so_far self.old) (lent_item item.entry)) }
+        ensures counted { OnOk result (CountsStatements self.new) }
+        ensures room { OnOk result (HasRoomIfStated (script_so_far self.old) (lent_item item.entry)) }
+        ensures err { IfErr result (IsNotAdded (script_so_far self.old) (lent_item item.entry)) }
     {
         match item {
             ItemRef::Stated(statement) => self.push(statement)?,

@@ -1,6 +1,6 @@
 //! What one line of a script says.
 ghost use Rattle.std.specs.Prelude.{◌≡◌, ◌≢◌, [], ◌∷◌, MatchOption};
-ghost use Rattle.script_text.specs.Lent.{item_of};
+ghost use Rattle.script_text.specs.Lent.{lent_item};
 ghost use Rattle.script_text.specs.Line.{IsLine, is_admitted};
 ghost use Rattle.script_text.specs.Readings.{IsLineReading, IsReading};
 ghost use Rattle.script_text.specs.Words.{words};
@@ -13,7 +13,7 @@ use std::alloc::AllocError;
 
 // Whether an item may stand in a script.
 fn is_admitted(set: LineSet, item: &ItemRef<'_>) -> bool
-    ensures { result ≡ is_admitted set (item_of item.now) }
+    ensures { result ≡ is_admitted set (lent_item item.now) }
 {
     match (set, item) {
         (LineSet::All, _) => true,
@@ -43,7 +43,7 @@ fn read_item<'a>(
     first: &[u8],
     words: Words<'_>,
 ) -> Result<Option<ItemRef<'a>>, AllocError>
-    ensures { IsReading item_of (IsLine number (first.now ∷ words.entry)) result }
+    ensures { IsReading lent_item (IsLine number (first.now ∷ words.entry)) result }
 {
     if first == b"phase".as_slice() {
         return Ok(alone(words, ItemRef::PhaseEnd));

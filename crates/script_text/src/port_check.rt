@@ -1,7 +1,7 @@
 //! The ports that a script names.
 ghost use Rattle.std.specs.Prelude.{◌≡◌, find};
 ghost use Rattle.std.specs.Option.{option_map};
-ghost use Rattle.script_text.specs.Lent.{item_of};
+ghost use Rattle.script_text.specs.Lent.{lent_item};
 ghost use Rattle.script_text.specs.Ports.{first_beyond, line_beyond};
 ghost use Rattle.script_text.specs.Script.{script_of, statement_in};
 
@@ -10,7 +10,7 @@ use crate::script_items::ScriptItems;
 
 // The line of an item that is a statement at a port which isn't below the count.
 fn line_of(item: ItemRef<'_>, count: u8) -> Option<u32>
-    ensures { result ≡ line_beyond count (statement_in (item_of item.entry)) }
+    ensures { result ≡ line_beyond count (statement_in (lent_item item.entry)) }
 {
     match item {
         ItemRef::Stated(statement) if count <= statement.event.port() => Some(statement.line),

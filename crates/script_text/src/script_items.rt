@@ -1,6 +1,6 @@
 //! What the lines of a script say, the bytes of its statements in one pool.
 ghost use Rattle.std.specs.Prelude.{◌≡◌, ◌<◌, [], ◌∷◌, ◌++◌, length, slice_get, Some, IfOk, OnOk};
-ghost use Rattle.script_text.specs.Lent.{event_of, item_of, statement_of};
+ghost use Rattle.script_text.specs.Lent.{event_of, lent_item, statement_of};
 ghost use Rattle.script_text.specs.Pool.{event_by};
 ghost use Rattle.script_text.specs.Item.Item.{Stated};
 
@@ -126,7 +126,7 @@ impl ScriptItems {
     /// What the line at place `index` among those says, from 0.
     pub fn item(&self, index: usize) -> ItemRef<'_>
         requires { index < length self.now }
-        ensures { slice_get self.now index ≡ Some (item_of result) }
+        ensures { slice_get self.now index ≡ Some (lent_item result) }
     {
         match self.entries[index] {
             Entry::Stated(place) => {
@@ -165,7 +165,7 @@ impl ScriptItems {
 
     // Adds what a line says at the end.
     pub(crate) fn push(&mut self, item: ItemRef<'_>) -> Result<(), AllocError>
-        ensures { OnOk result (self.new ≡ self.old ++ item_of item.entry ∷ []) }
+        ensures { OnOk result (self.new ≡ self.old ++ lent_item item.entry ∷ []) }
     {
         match item {
             ItemRef::Stated(statement) => self.push_statement(statement)?,

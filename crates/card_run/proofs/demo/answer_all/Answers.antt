@@ -6,7 +6,7 @@ use Rattle.std.specs.List.{slice_get}
 use Rattle.card_core.specs.declared.script.Statement.{Statement}
 use Rattle.script_text.specs.Item.{Item}
 use Rattle.script_text.specs.Item.Item.{Stated}
-use Rattle.script_text.specs.Lent.{item_of}
+use Rattle.script_text.specs.Lent.{lent_item}
 use Rattle.card_run.proofs.DemoLemmas.{RunSoFar, answered, counted_more, counted_same, finished, moved, passed, start, statements_all, statements_few, stopped}
 use Rattle.card_run.proofs.demo.answer_all.Goals as goal
 
@@ -60,7 +60,7 @@ pub loop-index-preserved-in_default : goal.loop-index-preserved-in_default
 loop-index-preserved-in_default g c =
     let items = c.args.script.now in
     let index = c.loop-index.index in
-    let item = item_of c.item.result in
+    let item = lent_item c.item.result in
     let within : index < length items = omega arith in
     record {
       so_far = passed items index item c.loop-index.card _ _ c.loop-index.block.items within c.item.ensures c.in_default.ensures c.loop-index.invariant.so_far;

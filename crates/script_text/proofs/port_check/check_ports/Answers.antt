@@ -1,6 +1,6 @@
 use Rattle.std.proofs.Common.{◌≡◌, ◌<◌, ◌≤◌, length, Some, None, sym, ap, ◌∙◌, arith}
 use Rattle.std.proofs.lemmas.Option.{get_or_from_slice_get}
-use Rattle.script_text.specs.Lent.{item_of}
+use Rattle.script_text.specs.Lent.{lent_item}
 use Rattle.script_text.specs.Ports.{line_beyond}
 use Rattle.script_text.specs.Script.{statement_in}
 use Rattle.script_text.proofs.FactLemmas.{statements_of-script_of}
@@ -11,7 +11,7 @@ pub returns-in-Some : goal.returns-in-Some
 returns-in-Some c =
     let items = c.args.script.now in
     let index = c.loop-index.index in
-    let item = item_of c.item.result in
+    let item = lent_item c.item.result in
     let within : index < length items = omega arith in
     let is = get_or_from_slice_get items index item item c.item.ensures in
     let found : line_beyond c.args.count (statement_in item) ≡ Some c.in-Some.line = sym c.in-Some.ensures in
@@ -22,7 +22,7 @@ pub loop-index-preserved : goal.loop-index-preserved
 loop-index-preserved c =
     let items = c.args.script.now in
     let index = c.loop-index.index in
-    let item = item_of c.item.result in
+    let item = lent_item c.item.result in
     let within : index < length items = omega arith in
     let is = get_or_from_slice_get items index item item c.item.ensures in
     let none : line_beyond c.args.count (statement_in item) ≡ None = sym c.in-None.ensures in

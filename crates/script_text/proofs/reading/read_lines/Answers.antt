@@ -1,7 +1,7 @@
 use Rattle.std.proofs.Common.{◌≡◌, ◌+◌, length, ap, ◌∙◌, arith, rules}
 use Rattle.std.specs.Str.Lines.{lines}
 use Rattle.script_text.specs.Draft.{script_so_far}
-use Rattle.script_text.specs.Lent.{item_of}
+use Rattle.script_text.specs.Lent.{lent_item}
 use Rattle.script_text.specs.Line.{Says}
 use Rattle.script_text.specs.Words.{IsPassedOver, words}
 use Rattle.script_text.proofs.FeedLemmas.{map-lines_of}
@@ -42,7 +42,7 @@ lines-preserved-in-Ok-None c =
 
 pub add-requires-clause-port : goal.add-requires-clause-port
 add-requires-clause-port c =
-    let item = item_of c.in-Ok-Some.item in
+    let item = lent_item c.in-Ok-Some.item in
     let says : Says c.args.set (c.lines.number + 1) (words c.in-Some.text.now) item = rw c.in-Ok-Some.field-0-is at c.in-Ok-Some.ensures in
     Says-port c.args.set (c.lines.number + 1) (words c.in-Some.text.now) item says
 
@@ -53,7 +53,7 @@ lines-preserved c =
     let so_far = rw steps at invariant.so_far in
     let left = invariant.left in
     let many = ap length steps in
-    let item = item_of c.in-Ok-Some.item in
+    let item = lent_item c.in-Ok-Some.item in
     let says : Says c.args.set (c.lines.number + 1) (words c.in-Some.text.now) item = rw c.in-Ok-Some.field-0-is at c.in-Ok-Some.ensures in
     record {
       can_next = search rules;
@@ -66,7 +66,7 @@ lines-preserved c =
 pub returns-in-Err-add : goal.returns-in-Err-add
 returns-in-Err-add c =
     let so_far = rw c.in-Some.ensures.steps at c.lines.invariant.so_far in
-    let item = item_of c.in-Ok-Some.item in
+    let item = lent_item c.in-Ok-Some.item in
     let says : Says c.args.set (c.lines.number + 1) (words c.in-Some.text.now) item = rw c.in-Ok-Some.field-0-is at c.in-Ok-Some.ensures in
     room_fault c.args.set c.args.bytes.now c.lines.number (script_so_far c.lines.draft) c.in-Some.text.now c.next.new.self c.requires so_far item says c.in-Err-add.fault c.in-Err-add.ensures.err
 
