@@ -1,5 +1,8 @@
 //! What no clause says: conversations with the ISD-R byte by byte, and each call once with ample
 //! memory.
+mod alone;
+mod cards;
+mod events;
 mod management;
 
 ghost use Rattle.std.specs.Prelude.{◌≡◌, ◌≤◌, length, IfOk};

@@ -1,6 +1,7 @@
 //! What no clause says: texts by their lines, the printed text of worked examples, and each call
 //! once with ample memory.
 mod listing;
+mod loads;
 mod log;
 mod rows;
 mod scripts;

@@ -1,100 +1,15 @@
 // Requests to the ISD-R, carried out in what a card keeps.
-ghost use Rattle.std.specs.Prelude.{◌≡◌, true, IfOk};
+ghost use Rattle.std.specs.Prelude.{◌≡◌, true};
 ghost use Rattle.file_rows.specs.Change.{Fits};
 ghost use Rattle.record_codec.specs.IsDurable.{IsDurable};
 ghost use Rattle.card_core.specs.Port.{content_on};
 
+use super::cards::{installation, new_card, store};
 use super::*;
 use crate::{change_content, content_on, profile_on};
-use file_rows::{Change, Content, FileHead, FileRow, Kind, Life, Name, Path, Piece};
-use notify_list::Address;
-use record_codec::{BoxedProfile, Durable, NoteTarget, Profile, Record};
+use file_rows::{Change, Path, Piece};
+use record_codec::Durable;
 use std::process::Abort;
-
-// A card in MEP-A1 with three ports, in which no profile is installed.
-fn new_card(alloc: Global) -> Result<Durable, Fail>
-    ensures { IfOk result (λ held. IsDurable held) }
-{
-    let card = Record::PutCard {
-        mode: PortMode::A1,
-        ports: 3,
-        eid: [0x89; 16],
-        next_number: 0x1100,
-        next_note: 1,
-        notes: LongList::new(alloc),
-    };
-    match Durable::begin(alloc, &card)? {
-        Some(held) => Ok(held),
-        None => Err(Fail::from("a card")),
-    }
-}
-
-// The MF, and a transparent file of two bytes.
-fn content(alloc: Global) -> Result<Content, Fail> {
-    let master = FileHead {
-        path: Path::new(),
-        kind: Kind::Master,
-        life: Life::Active,
-        sfi: 0,
-        name: Name::new(),
-        rule: None,
-        record_len: 0,
-        size: 0,
-    };
-    let mut transparent = master.copy();
-    transparent.path = Path::from_slice(&[0x2F05]);
-    transparent.kind = Kind::Transparent;
-    transparent.size = 2;
-    let mut rows = LongList::new(alloc);
-    rows.push(FileRow {
-        head: master,
-        body: LongList::new(alloc),
-    })?;
-    rows.push(FileRow {
-        head: transparent,
-        body: LongList::from(Vec::from_slice(alloc, &[0xFF, 0xFF])?),
-    })?;
-    let pins = LongList::new(alloc);
-    Ok(Content { rows, pins })
-}
-
-// The installation of a profile whose ICCID ends so.
-fn installation(alloc: Global, number: u16, last: u8) -> Result<Record, Fail> {
-    let mut targets = Targets::new();
-    targets.push(NoteTarget {
-        operations: 0x0F,
-        address: Address::from_slice(b"smdp.test"),
-    });
-    let head = ProfileHead {
-        number,
-        iccid: [0x98, 0x94, 0, 0, 0, 0, 0, 0, 0, last],
-        provider: Provider::from_slice(b"Op"),
-        name: Label::from_slice(b"P1"),
-        nickname: Label::new(),
-        class: 2,
-        policy: 0,
-        targets,
-    };
-    let profile = Profile {
-        head,
-        content: content(alloc)?,
-    };
-    Ok(Record::PutProfile {
-        installation: true,
-        profile: BoxedProfile::new(alloc, profile)?,
-        port: None,
-    })
-}
-
-fn install(rt: &impl Abort, held: &mut Durable, entry: &Record) -> Result<(), Fail>
-    requires { IsDurable held.old }
-    ensures { IsDurable held.new }
-{
-    assert!(rt; held.fits(entry));
-    let room = held.reserve(entry)?;
-    held.apply(entry, room);
-    Ok(())
-}
 
 // Whether a desk of port 0 answers so to these bytes, on a card that keeps this.
 fn answers(
@@ -137,9 +52,9 @@ const INFO_OF_1: &[u8] = b"\xBF\x2D\x35\xA0\x33\xE3\x31\x5A\x0A\x98\x94\0\0\0\0\
 #[test]
 fn requests_are_carried_out_on_a_card(rt: HostRuntime) -> Result<(), Fail> {
     let alloc = rt.alloc();
-    let mut held = new_card(alloc)?;
-    install(&rt, &mut held, &installation(alloc, 0x1100, 0xF1)?)?;
-    install(&rt, &mut held, &installation(alloc, 0x1101, 0xF2)?)?;
+    let mut held = new_card(alloc, PortMode::A1, 3)?;
+    store(&rt, &mut held, &installation(alloc, 0x1100, 0xF1, 2)?)?;
+    store(&rt, &mut held, &installation(alloc, 0x1101, 0xF2, 2)?)?;
     let mut desk = Desk::new(alloc);
     let enabled = b"\xBF\x31\x03\x80\x01\x00";
     assert!(rt; answers(alloc, &mut desk, &mut held, ENABLE_1, enabled)?);
@@ -201,9 +116,9 @@ const ENABLE_2: &[u8] =
 #[test]
 fn a_change_at_one_port_leaves_the_file_at_another(rt: HostRuntime) -> Result<(), Fail> {
     let alloc = rt.alloc();
-    let mut held = new_card(alloc)?;
-    install(&rt, &mut held, &installation(alloc, 0x1100, 0xF1)?)?;
-    install(&rt, &mut held, &installation(alloc, 0x1101, 0xF2)?)?;
+    let mut held = new_card(alloc, PortMode::A1, 3)?;
+    store(&rt, &mut held, &installation(alloc, 0x1100, 0xF1, 2)?)?;
+    store(&rt, &mut held, &installation(alloc, 0x1101, 0xF2, 2)?)?;
     let mut desk = Desk::new(alloc);
     let enabled = b"\xBF\x31\x03\x80\x01\x00";
     assert!(rt; answers(alloc, &mut desk, &mut held, ENABLE_1, enabled)?);

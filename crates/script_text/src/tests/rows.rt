@@ -2,7 +2,7 @@
 ghost use Rattle.std.specs.Prelude.{IfOk};
 ghost use Rattle.record_codec.specs.IsDurable.{IsDurable};
 
-use super::scripts::{Further, Part, push_metadata, push_package, script_of};
+use super::scripts::{Further, Part, script_of};
 use super::*;
 use bstr::ByteSlice;
 use card_core::{Entry, Event, World, may_come, pure_run};
@@ -87,7 +87,7 @@ fn printed(alloc: Global, world: &World) -> Result<Vec<u8>, Fail>
 }
 
 // What is printed of a script on a card that was new before these earlier parts.
-fn text_of(
+pub(super) fn text_of(
     alloc: Global,
     card: (PortMode, u8),
     earlier: &[Part],
@@ -100,21 +100,21 @@ fn text_of(
     printed(alloc, &world)
 }
 
-fn has_line(text: &[u8], line: &str) -> bool {
-    text.lines().any(|its| its == line.as_bytes())
+pub(super) fn has_line(text: &[u8], line: &[u8]) -> bool {
+    text.lines().any(|its| its == line)
 }
 
-const A1: (PortMode, u8) = (PortMode::A1, 3);
+pub(super) const A1: (PortMode, u8) = (PortMode::A1, 3);
 
 const A2: (PortMode, u8) = (PortMode::A2, 3);
 
 const B: (PortMode, u8) = (PortMode::B, 2);
 
-const FIRST: Part = Part::Profile("1", Further::Nothing, false);
+pub(super) const FIRST: Part = Part::Profile("1", Further::Nothing, false);
 
 const SECOND: Part = Part::Profile("2", Further::Nothing, true);
 
-const THIRD: Part = Part::Profile("3", Further::Nothing, false);
+pub(super) const THIRD: Part = Part::Profile("3", Further::Nothing, false);
 
 // Two profiles, on ports 1 and 2.
 const TWO: [Part; 4] = [
@@ -166,7 +166,10 @@ fn print_their_lines(alloc: Global, rows: &[Row]) -> Result<bool, Fail> {
     for (card, earlier, parts, lines) in rows {
         let script = script_of(alloc, parts)?;
         let text = text_of(alloc, *card, earlier, script.as_str())?;
-        all = all && lines.iter().all(|line| has_line(text.as_slice(), line));
+        all = all
+            && lines
+                .iter()
+                .all(|line| has_line(text.as_slice(), line.as_bytes()));
     }
     Ok(all)
 }
@@ -398,37 +401,6 @@ fn ports_answer_for_their_own_profiles(rt: HostRuntime) -> Result<(), Fail> {
         ),
     ];
     assert!(rt; print_their_lines(rt.alloc(), &rows)?);
-    Ok(())
-}
-
-// The script of a load of the first profile with that package.
-fn load_of(alloc: Global, package: &str) -> Result<String, AllocError> {
-    let mut out = String::new(alloc);
-    out.push_str("load 0 begin ")?;
-    push_metadata(&mut out, "1", Further::Nothing)?;
-    out.push_str("load 0 piece ")?;
-    out.push_str(package)?;
-    out.push_str("\nload 0 end\n")?;
-    Ok(out)
-}
-
-#[test]
-fn loads_are_taken_whole_or_refused(rt: HostRuntime) -> Result<(), Fail> {
-    let alloc = rt.alloc();
-    let mut package = String::new(alloc);
-    push_package(&mut package, "1", false, "AA05A0038101")?;
-    let script = load_of(alloc, package.as_str())?;
-    let text = text_of(alloc, A1, &[], script.as_str())?;
-    let want = b"0.1 load begun\n0.2 load taken\n0.3 load refused element 4 result 5\n\
-        listing\ncard A1 ports 3 eid 89049032000000000000000000000001\nend\n";
-    assert_eq!(rt; text.as_slice(), want.as_slice());
-    let mut package = String::new(alloc);
-    push_package(&mut package, "1", false, "A603800101AA05A003810103")?;
-    let script = load_of(alloc, package.as_str())?;
-    let text = text_of(alloc, A1, &[], script.as_str())?;
-    assert!(rt; has_line(text.as_slice(), "0.3 load done 1100 #1"));
-    let line = "profile 1100 989400000000000000F1 disabled files 6 used 781";
-    assert!(rt; has_line(text.as_slice(), line));
     Ok(())
 }
 
