@@ -90,7 +90,8 @@ impl Draft {
         ensures ok { OnOk result
             (script_so_far self.new ≡ with_item (script_so_far self.old) (lent_item item.entry)) }
         ensures counted { OnOk result (CountsStatements self.new) }
-        ensures room { OnOk result (HasRoomIfStated (script_so_far self.old) (lent_item item.entry)) }
+        ensures room { OnOk result
+            (HasRoomIfStated (script_so_far self.old) (lent_item item.entry)) }
         ensures err { IfErr result (IsNotAdded (script_so_far self.old) (lent_item item.entry)) }
     {
         match item {

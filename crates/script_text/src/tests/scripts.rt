@@ -2,8 +2,8 @@
 //! lines.
 use std::alloc::{AllocError, Global};
 
-// The metadata of operational profiles up to the last digit of the ICCID, then up to that of the name,
-// then with the server that is notified of the installation and of the enabling.
+// The metadata of operational profiles up to the last digit of the ICCID, then up to that of the
+// name, then with the server that is notified of the installation and of the enabling.
 const METADATA: [&str; 3] = [
     "5A0A989400000000000000F",
     "91024F709202503",
@@ -14,8 +14,8 @@ const METADATA: [&str; 3] = [
 const RULES: &str = "83108001019000800102A40683010A95010882011A83058001039000820125\
     830B800103A406830101950108";
 
-// Its package up to the digit of the ICCID in the header and in the MF, and then behind the rules of
-// the MF: two PINs and the end.
+// Its package up to the digit of the ICCID in the header and in the MF, and then behind the rules
+// of the MF: two PINs and the end.
 const HEADER: &str = "A012800103810103830A989400000000000000F";
 
 const MASTER: &str = "B049A003810101060667810F010201A40C830A989400000000000000F";
