@@ -1,5 +1,7 @@
 -- What a pass over the bytes of a list of conditions comes to, object by object.
-use Rattle.std.proofs.Common.{◌≡◌, ℕ, zero, suc, ◌-◌, ◌<◌, length, Bool, true, false, List, [], ◌∷◌, Option, Some, None, Result, Ok, Err, refl, sym, ◌∙◌, ap, subst, arith, eq-eqb}
+use Rattle.std.proofs.Common.{◌≡◌, ℕ, zero, suc, ◌-◌, ◌<◌, length, Bool, true, false, List, [], ◌∷◌}
+use Rattle.std.proofs.Common.{Option, Some, None, Result, Ok, Err, refl, sym, ◌∙◌, ap, subst, arith}
+use Rattle.std.proofs.Common.{eq-eqb}
 use Rattle.std.specs.Prelude.{◌&&◌, ◌||◌, option_and_then, option_map}
 use Rattle.std.specs.Option.{ok_or}
 use Rattle.std.proofs.lemmas.Bool.{cond-true, cond-false}
@@ -11,7 +13,8 @@ use Rattle.access_rules.specs.Condition.Condition.{AllOf, Always, Key, Never, On
 use Rattle.access_rules.specs.Condition.Conditions.{Also, NoMore}
 use Rattle.ber_tlv.specs.Objects.{Read, object_at, objects_of}
 use Rattle.access_rules.specs.Reading.{condition_of, conditions_by, empty_or_none, key_of}
-use Rattle.ber_tlv.proofs.ObjectLemmas.{IsThere, eqb-not, no_objects, no_step, object_there, objects_step, of_some, not_tag}
+use Rattle.ber_tlv.proofs.ObjectLemmas.{IsThere, eqb-not, no_objects, no_step, object_there}
+use Rattle.ber_tlv.proofs.ObjectLemmas.{objects_step, of_some, not_tag}
 use Rattle.ber_tlv.proofs.Walking.{shorter}
 
 pub fault_is : {A : Type 0} (o : Option A) (e : RuleFault) → Err e ≡ ok_or o Malformed → (o ≡ None) × (e ≡ Malformed)

@@ -1,5 +1,6 @@
 -- A key more that is met takes nothing away.
-use Rattle.std.proofs.Common.{◌≡◌, ℕ, Bool, true, false, cond, List, [], ◌∷◌, Option, Some, None, refl}
+use Rattle.std.proofs.Common.{◌≡◌, ℕ, Bool, true, false, cond, List, [], ◌∷◌, Option, Some, None}
+use Rattle.std.proofs.Common.{refl}
 use Rattle.std.specs.Prelude.{◌&&◌, ◌||◌, option_map, unwrap_or}
 use Rattle.file_rows.specs.declared.mode.Mode.{Mode}
 use Rattle.access_rules.specs.AccessRule.{AccessRule, allows, covers}

@@ -1,5 +1,7 @@
 -- A set of keys, and the condition of a key.
-use Rattle.std.proofs.Common.{◌≡◌, ℕ, zero, suc, ◌<◌, Bool, true, false, cond, List, [], ◌∷◌, length, get_or, Option, Some, None, Result, Ok, Err, refl, sym, ◌∙◌, ap, subst, arith, eq-eqb, ◌⊎◌, inl, inr, ⊎_elim}
+use Rattle.std.proofs.Common.{◌≡◌, ℕ, zero, suc, ◌<◌, Bool, true, false, cond, List, [], ◌∷◌}
+use Rattle.std.proofs.Common.{length, get_or, Option, Some, None, Result, Ok, Err, refl, sym, ◌∙◌}
+use Rattle.std.proofs.Common.{ap, subst, arith, eq-eqb, ◌⊎◌, inl, inr, ⊎_elim}
 use Rattle.std.specs.Prelude.{◌==◌, ◌↔◌, IsTrue, MatchResult, option_and_then, option_map}
 use Rattle.std.specs.Option.{ok_or}
 use Rattle.std.proofs.Math.ListN.{set, replicate}
@@ -10,7 +12,8 @@ use Rattle.access_rules.specs.declared.fault.RuleFault.{RuleFault}
 use Rattle.access_rules.specs.declared.fault.RuleFault.TheVariants.{Malformed}
 use Rattle.ber_tlv.specs.Objects.{Read, object_at, objects_of}
 use Rattle.access_rules.specs.Reading.{byte_of, key_of}
-use Rattle.ber_tlv.proofs.ObjectLemmas.{by_test, eqb-is, eqb-not, no_objects, no_step, objects_fill, objects_step, of_some}
+use Rattle.ber_tlv.proofs.ObjectLemmas.{by_test, eqb-is, eqb-not, no_objects, no_step, objects_fill}
+use Rattle.ber_tlv.proofs.ObjectLemmas.{objects_step, of_some}
 
 pub none_read : (n key : ℕ) → get_or (replicate n false) key false ≡ false
 none_read zero key = refl

@@ -1,5 +1,7 @@
 -- What is read of a condition, a rule and a record is what their bytes spell.
-use Rattle.std.proofs.Common.{◌≡◌, ℕ, zero, suc, ◌<◌, ◌≤◌, List, [], ◌∷◌, ◌++◌, length, Option, Some, None, refl, sym, ◌∙◌, ap, subst, arith, eq-eqb, inl, inr, ⊎_elim}
+use Rattle.std.proofs.Common.{◌≡◌, ℕ, zero, suc, ◌<◌, ◌≤◌, List, [], ◌∷◌, ◌++◌, length, Option}
+use Rattle.std.proofs.Common.{Some, None, refl, sym, ◌∙◌, ap, subst, arith, eq-eqb, inl, inr}
+use Rattle.std.proofs.Common.{⊎_elim}
 use Rattle.std.specs.Prelude.{◌↔◌, option_and_then, option_map}
 use Rattle.std.proofs.lemmas.Bool.{cond-true, cond-false}
 use Rattle.ber_tlv.specs.Walk.{LeadWith, Object}
@@ -12,9 +14,14 @@ use Rattle.access_rules.specs.Condition.{Condition, Conditions, depth, greatest_
 use Rattle.access_rules.specs.Condition.Condition.{AllOf, Always, Key, Never, OneOf}
 use Rattle.access_rules.specs.Condition.Conditions.{Also, NoMore}
 use Rattle.ber_tlv.specs.Objects.{Read, object_at, objects_of}
-use Rattle.access_rules.specs.Reading.{asks_for_user, byte_of, codes_of, condition_of, conditions_by, empty_or_none, key_of, modes_of, leading_rule, rule_with, rules_in, rules_of}
-use Rattle.access_rules.specs.Record.{AreConditions, BeginsWithRule, IsCondition, IsModes, SpellsRules, key_objects}
-use Rattle.ber_tlv.proofs.ObjectLemmas.{IsThere, Sound, and_then, by_test, eqb-is, eqb-not, mapped, none, object_read, object_there, objects_fill, objects_filled, of_some, same_values, some, weaken, not_tag}
+use Rattle.access_rules.specs.Reading.{asks_for_user, byte_of, codes_of, condition_of}
+use Rattle.access_rules.specs.Reading.{conditions_by, empty_or_none, key_of, modes_of, leading_rule}
+use Rattle.access_rules.specs.Reading.{rule_with, rules_in, rules_of}
+use Rattle.access_rules.specs.Record.{AreConditions, BeginsWithRule, IsCondition, IsModes}
+use Rattle.access_rules.specs.Record.{SpellsRules, key_objects}
+use Rattle.ber_tlv.proofs.ObjectLemmas.{IsThere, Sound, and_then, by_test, eqb-is, eqb-not, mapped}
+use Rattle.ber_tlv.proofs.ObjectLemmas.{none, object_read, object_there, objects_fill}
+use Rattle.ber_tlv.proofs.ObjectLemmas.{objects_filled, of_some, same_values, some, weaken, not_tag}
 
 empty_there : {X : Type 0} (P : X → Type 0) (bytes : List ℕ) (x : X) → (bytes ≡ [] → P x) → Sound P (empty_or_none bytes x)
 empty_there P [] x h = some P x (h refl)

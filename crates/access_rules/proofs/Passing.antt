@@ -1,5 +1,6 @@
 -- What a pass over the rules of a record comes to, rule by rule.
-use Rattle.std.proofs.Common.{◌≡◌, ℕ, ◌<◌, Bool, true, false, cond, List, [], ◌∷◌, length, Option, Some, None, Ok, refl, ◌∙◌, ap, subst, eq-eqb, inl, inr}
+use Rattle.std.proofs.Common.{◌≡◌, ℕ, ◌<◌, Bool, true, false, cond, List, [], ◌∷◌, length, Option}
+use Rattle.std.proofs.Common.{Some, None, Ok, refl, ◌∙◌, ap, subst, eq-eqb, inl, inr}
 use Rattle.std.specs.Prelude.{option_and_then, option_map, unwrap_or}
 use Rattle.std.specs.Bool.{then_some}
 use Rattle.std.specs.Option.{ok_or, option_or}
@@ -12,10 +13,12 @@ use Rattle.access_rules.specs.AccessRule.{AccessRule, Modes, allows, answer_of, 
 use Rattle.access_rules.specs.AccessRule.Modes.{Bits}
 use Rattle.access_rules.specs.Condition.{holds}
 use Rattle.ber_tlv.specs.Objects.{Read, object_at}
-use Rattle.access_rules.specs.Reading.{byte_of, codes_of, condition_of, modes_of, leading_rule, rule_with, rules_of}
+use Rattle.access_rules.specs.Reading.{byte_of, codes_of, condition_of, modes_of, leading_rule}
+use Rattle.access_rules.specs.Reading.{rule_with, rules_of}
 use Rattle.access_rules.specs.Record.{HasNoMore}
 use Rattle.ber_tlv.proofs.ObjectLemmas.{eqb-not, of_some, not_tag}
-use Rattle.access_rules.proofs.Meaning.{HasRule, ended, no_rule, no_rules, rule_shorter, rule_there, rules_step}
+use Rattle.access_rules.proofs.Meaning.{HasRule, ended, no_rule, no_rules, rule_shorter, rule_there}
+use Rattle.access_rules.proofs.Meaning.{rules_step}
 
 module _ (mode : Mode) (o : Object) where
   abbrev pub covered : Option Bool

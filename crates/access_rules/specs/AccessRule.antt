@@ -1,6 +1,7 @@
 -- An access rule: the ways of using a file that it covers, and the condition under which they are
 -- allowed.
-use Rattle.std.specs.Prelude.{ℕ, Bool, false, not, ◌==◌, bit_and, List, [], ◌∷◌, Option, Some, None, if◌then◌else◌}
+use Rattle.std.specs.Prelude.{ℕ, Bool, false, not, ◌==◌, bit_and, List, [], ◌∷◌, Option, Some, None}
+use Rattle.std.specs.Prelude.{if◌then◌else◌}
 use Rattle.std.specs.List.{list_any}
 use Rattle.file_rows.specs.declared.mode.Mode.{Mode}
 use Rattle.file_rows.specs.declared.mode.Mode.TheVariants.{Bit, Ins}

@@ -1,5 +1,7 @@
 -- Who may do what with a file (ETSI TS 102 221, access rules referenced in EF ARR).
-use Rattle.std.specs.Prelude.{ℕ, suc, zero, ◌-◌, ◌*◌, Bool, false, ◌&&◌, nat_le, if◌then◌else◌, List, [], ◌∷◌, ◌++◌, length, map, take, drop, Option, Some, None, option_and_then, option_map, unwrap_or}
+use Rattle.std.specs.Prelude.{ℕ, suc, zero, ◌-◌, ◌*◌, Bool, false, ◌&&◌, nat_le, if◌then◌else◌}
+use Rattle.std.specs.Prelude.{List, [], ◌∷◌, ◌++◌, length, map, take, drop, Option, Some, None}
+use Rattle.std.specs.Prelude.{option_and_then, option_map, unwrap_or}
 use Rattle.plain_lists.specs.FirstOf.{first_of}
 use Rattle.file_rows.specs.Content.{file_at}
 use Rattle.file_rows.specs.FileHead.{is_linear}

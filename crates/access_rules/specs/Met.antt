@@ -1,5 +1,6 @@
 -- Which keys are met (ETSI TS 102 221, PIN and key references).
-use Rattle.std.specs.Prelude.{ℕ, Bool, false, not, ◌-◌, ◌==◌, ◌&&◌, ◌||◌, if◌then◌else◌, List, map, find, Option, option_map, unwrap_or}
+use Rattle.std.specs.Prelude.{ℕ, Bool, false, not, ◌-◌, ◌==◌, ◌&&◌, ◌||◌, if◌then◌else◌, List, map}
+use Rattle.std.specs.Prelude.{find, Option, option_map, unwrap_or}
 use Rattle.plain_lists.specs.FirstOf.{first_of}
 use Rattle.file_rows.specs.Content.{file_at}
 use Rattle.file_rows.specs.FileHead.{holds_files}

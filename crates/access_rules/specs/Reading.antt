@@ -1,6 +1,7 @@
 -- How the bytes of a record are read: by cases, from the first byte on. `records_have_one_meaning`
 -- says that this is what the bytes spell.
-use Rattle.std.specs.Prelude.{ℕ, zero, suc, ◌==◌, if◌then◌else◌, List, [], ◌∷◌, length, Option, Some, None, option_and_then, option_map}
+use Rattle.std.specs.Prelude.{ℕ, zero, suc, ◌==◌, if◌then◌else◌, List, [], ◌∷◌, length, Option}
+use Rattle.std.specs.Prelude.{Some, None, option_and_then, option_map}
 use Rattle.ber_tlv.specs.Objects.{Read, object_at, objects_of}
 use Rattle.ber_tlv.specs.Walk.{Object}
 use Rattle.access_rules.specs.AccessRule.{AccessRule, Modes}

@@ -23,7 +23,8 @@ fn counts(pin: &PinRow, verified: u32) -> bool
 // Puts the keys of the PINs at home in one directory in place of those found above it.
 fn put_keys_at(keys: &mut KeySet, pins: &[PinRow], home: &[u16], verified: u32)
     ensures { (key : ℕ) → has keys.new key ≡ unwrap_or
-        (option_map (counts (is_verified verified)) (pin_at pins.now key home.now)) (has keys.old key) }
+        (option_map (counts (is_verified verified)) (pin_at pins.now key home.now))
+        (has keys.old key) }
 {
     let mut left = pins.len();
     while left > 0 {

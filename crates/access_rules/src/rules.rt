@@ -1,7 +1,8 @@
 //! What the rules of a record allow. Each call here goes through the record's bytes once, in a few
 //! instructions for a byte, and takes no memory; conditions nest at most 8 deep, and so do its
 //! calls.
-ghost use Rattle.std.specs.Prelude.{◌≡◌, ◌↔◌, ◌==◌, ℕ, Bool, List, Option, IsTrue, MatchResult, Some, None, option_map, if◌then◌else◌};
+ghost use Rattle.std.specs.Prelude.{◌≡◌, ◌↔◌, ◌==◌, ℕ, Bool, List, Option, IsTrue, MatchResult};
+ghost use Rattle.std.specs.Prelude.{Some, None, option_map, if◌then◌else◌};
 ghost use Rattle.std.specs.List.{list_any};
 ghost use Rattle.std.specs.Option.{ok_or};
 ghost use Rattle.ber_tlv.specs.Walk.{object_of};

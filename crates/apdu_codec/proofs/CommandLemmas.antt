@@ -1,4 +1,5 @@
-use Rattle.std.proofs.Common.{◌≡◌, ℕ, ◌-◌, ◌<◌, ◌≤◌, List, ◌∷◌, take, drop, length, Option, Some, arith}
+use Rattle.std.proofs.Common.{◌≡◌, ℕ, ◌-◌, ◌<◌, ◌≤◌, List, ◌∷◌, take, drop, length, Option, Some}
+use Rattle.std.proofs.Common.{arith}
 use Rattle.std.proofs.Math.Seq.{take-length}
 use Rattle.apdu_codec.specs.Command.{IsCommand, Spells, SpellsTail, Apdu}
 use Rattle.apdu_codec.specs.declared.commands.Command.{Command}

@@ -1,8 +1,11 @@
-use Rattle.std.specs.Prelude.{◌≡◌, ℕ, ◌+◌, ◌<◌, Bool, ◌||◌, ◌&&◌, nat_le, Option, Some, None, if◌then◌else◌}
+use Rattle.std.specs.Prelude.{◌≡◌, ℕ, ◌+◌, ◌<◌, Bool, ◌||◌, ◌&&◌, nat_le, Option, Some, None}
+use Rattle.std.specs.Prelude.{if◌then◌else◌}
 use Rattle.apdu_codec.specs.declared.commands.Class.{Class}
 use Rattle.apdu_codec.specs.declared.commands.Class.TheVariants.{Standard, Special}
 use Rattle.apdu_codec.specs.declared.status.Sw.{Sw}
-use Rattle.apdu_codec.specs.declared.status.TheConstants.Sw.{CHANNEL_NOT_SUPPORTED, SECURE_MESSAGING_NOT_SUPPORTED, WRONG_CLASS}
+use Rattle.apdu_codec.specs.declared.status.TheConstants.Sw.{CHANNEL_NOT_SUPPORTED}
+use Rattle.apdu_codec.specs.declared.status.TheConstants.Sw.{SECURE_MESSAGING_NOT_SUPPORTED}
+use Rattle.apdu_codec.specs.declared.status.TheConstants.Sw.{WRONG_CLASS}
 
 -- ETSI TS 102 221, coding of the class byte: this one stands for a command of this class on this
 -- channel

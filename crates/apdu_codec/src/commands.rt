@@ -1,8 +1,10 @@
 //! Command APDUs.
-ghost use Rattle.std.specs.Prelude.{◌≡◌, ℕ, ◌+◌, ◌<◌, ◌≤◌, List, length, Option, IfOk, IfErr, OnOk, OnErr};
+ghost use Rattle.std.specs.Prelude.{◌≡◌, ℕ, ◌+◌, ◌<◌, ◌≤◌, List, length, Option, IfOk, IfErr, OnOk};
+ghost use Rattle.std.specs.Prelude.{OnErr};
 ghost use Rattle.apdu_codec.specs.Class.{HasClass, class_refusal};
 ghost use Rattle.apdu_codec.specs.declared.commands.Class.{Class};
-ghost use Rattle.apdu_codec.specs.Command.{IsCommand, Spells, SpellsTail, Apdu, expected, refusal, apdu_of};
+ghost use Rattle.apdu_codec.specs.Command.{IsCommand, Spells, SpellsTail, Apdu, expected, refusal};
+ghost use Rattle.apdu_codec.specs.Command.{apdu_of};
 
 use crate::Sw;
 

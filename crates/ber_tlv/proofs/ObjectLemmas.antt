@@ -1,5 +1,7 @@
 -- A data object is read just where it stands.
-use Rattle.std.proofs.Common.{◌≡◌, ℕ, zero, suc, ◌+◌, ◌*◌, ◌%◌, ◌<◌, ◌≤◌, Bool, true, false, cond, List, [], ◌∷◌, ◌++◌, length, drop, Option, Some, None, refl, sym, ◌∙◌, ap, subst, arith, eq-eqb}
+use Rattle.std.proofs.Common.{◌≡◌, ℕ, zero, suc, ◌+◌, ◌*◌, ◌%◌, ◌<◌, ◌≤◌, Bool, true, false, cond}
+use Rattle.std.proofs.Common.{List, [], ◌∷◌, ◌++◌, length, drop, Option, Some, None, refl, sym, ◌∙◌}
+use Rattle.std.proofs.Common.{ap, subst, arith, eq-eqb}
 use Rattle.std.proofs.lemmas.Bool.{cond-true, cond-false}
 use Rattle.std.specs.Prelude.{◌==◌, ◌&&◌, nat_lt, nat_le, IfSome, option_and_then, option_map}
 use Rattle.std.proofs.lemmas.Bool.{ltb-true, leb-true, eqb-false}
@@ -14,7 +16,8 @@ use Rattle.ber_tlv.specs.Walk.{LeadWith, Object}
 use Rattle.ber_tlv.proofs.Reading.{tag_of, length_of}
 use Rattle.ber_tlv.proofs.Refusal.{found_at}
 use Rattle.ber_tlv.proofs.Walking.{shorter}
-use Rattle.ber_tlv.specs.Objects.{Read, long_tag, tag_at, long_length, length_at, value_at, object_at, objects_in, objects_of}
+use Rattle.ber_tlv.specs.Objects.{Read, long_tag, tag_at, long_length, length_at, value_at}
+use Rattle.ber_tlv.specs.Objects.{object_at, objects_in, objects_of}
 
 -- of a choice by a test
 pub by_test : {A : Type 0} (P : A → Type 0) (b : Bool) (x y : A) → (b ≡ true → P x) → (b ≡ false → P y) → P (cond b x y)

@@ -1,5 +1,6 @@
 -- Bytes begin with one tag, with one length and with one TLV at most, or a reader has one reason to refuse them.
-use Rattle.std.proofs.Common.{◌≡◌, ℕ, List, [], ◌∷◌, ◌++◌, length, refl, sym, ◌∙◌, ap, subst, arith, append_assoc}
+use Rattle.std.proofs.Common.{◌≡◌, ℕ, List, [], ◌∷◌, ◌++◌, length, refl, sym, ◌∙◌, ap, subst, arith}
+use Rattle.std.proofs.Common.{append_assoc}
 use Rattle.ber_tlv.specs.Tag.{SpellsTag}
 use Rattle.ber_tlv.specs.Length.{SpellsLength}
 use Rattle.ber_tlv.specs.Tlv.{BeginsWith}

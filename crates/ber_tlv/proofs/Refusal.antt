@@ -1,5 +1,7 @@
 -- Bytes that begin with a TLV aren't refused, and others are refused for one reason.
-use Rattle.std.proofs.Common.{◌≡◌, ℕ, ◌+◌, ◌-◌, ◌<◌, ◌≤◌, List, [], ◌∷◌, ◌++◌, length, take, drop, Result, Ok, Err, refl, sym, ◌∙◌, ap, subst, ⊎_elim, arith, append_assoc, length-append}
+use Rattle.std.proofs.Common.{◌≡◌, ℕ, ◌+◌, ◌-◌, ◌<◌, ◌≤◌, List, [], ◌∷◌, ◌++◌, length, take, drop}
+use Rattle.std.proofs.Common.{Result, Ok, Err, refl, sym, ◌∙◌, ap, subst, ⊎_elim, arith}
+use Rattle.std.proofs.Common.{append_assoc, length-append}
 use Rattle.std.specs.Prelude.{MatchResult, IsErrOf, IsOkAnd, ◌↔◌}
 use Rattle.std.proofs.lemmas.List.{take-append-drop, length-take-le, length-drop}
 use Rattle.std.proofs.Math.Seq.{drop-append-add}
@@ -9,7 +11,8 @@ use Rattle.ber_tlv.specs.declared.read.Tlv.{Tlv}
 use Rattle.ber_tlv.specs.Tag.{SpellsTag, HasBadTag}
 use Rattle.ber_tlv.specs.Length.{SpellsLength}
 use Rattle.ber_tlv.specs.Tlv.{BeginsWith, HasBadLength, Refuses}
-use Rattle.ber_tlv.specs.Parts.{BeginsWithTag, BeginsWithLength, BeginsBadly, RefusesTag, RefusesLength, StandsFirst}
+use Rattle.ber_tlv.specs.Parts.{BeginsWithTag, BeginsWithLength, BeginsBadly, RefusesTag}
+use Rattle.ber_tlv.specs.Parts.{RefusesLength, StandsFirst}
 use Rattle.ber_tlv.proofs.Reading.{same_tag, same_length, tag_of, length_of, one_tlv}
 
 -- a good tag isn't a bad one, whatever follows

@@ -1,6 +1,7 @@
 -- The length field of a BER-TLV data object (ISO/IEC 7816-4; ETSI TS 102 221): definite, of one to
 -- four bytes, and of more bytes than the length needs if the sender likes.
-use Rattle.std.specs.Prelude.{◌≡◌, ℕ, ◌+◌, ◌*◌, ◌/◌, ◌%◌, ◌<◌, List, [], ◌∷◌, ◌⊎◌, if◌then◌else◌, nat_lt}
+use Rattle.std.specs.Prelude.{◌≡◌, ℕ, ◌+◌, ◌*◌, ◌/◌, ◌%◌, ◌<◌, List, [], ◌∷◌, ◌⊎◌, if◌then◌else◌}
+use Rattle.std.specs.Prelude.{nat_lt}
 
 -- one byte up to 7F, or 81, 82 or 83 and one, two or three bytes of the number
 abbrev pub SpellsLength : List ℕ → ℕ → Type 0

@@ -1,5 +1,6 @@
 -- The tag field of a BER-TLV data object (ISO/IEC 7816-4; ETSI TS 102 221): of one to three bytes.
-use Rattle.std.specs.Prelude.{◌≡◌, ◌≢◌, ℕ, ◌+◌, ◌*◌, ◌/◌, ◌%◌, ◌<◌, ◌≤◌, List, [], ◌∷◌, ◌⊎◌, if◌then◌else◌, nat_lt}
+use Rattle.std.specs.Prelude.{◌≡◌, ◌≢◌, ℕ, ◌+◌, ◌*◌, ◌/◌, ◌%◌, ◌<◌, ◌≤◌, List, [], ◌∷◌, ◌⊎◌}
+use Rattle.std.specs.Prelude.{if◌then◌else◌, nat_lt}
 
 -- A byte whose low five bits aren't all set stands alone. After one whose low five bits are all
 -- set comes a byte below 80, or one from 81 to FF and then one below 80. The tag is these bytes as

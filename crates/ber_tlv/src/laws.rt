@@ -1,5 +1,6 @@
 //! What holds of the coding, whoever reads or writes it.
-ghost use Rattle.std.specs.Prelude.{◌≡◌, ◌↔◌, ℕ, ◌<◌, ◌≤◌, ◌^◌, List, [], ◌++◌, length, Some, Result};
+ghost use Rattle.std.specs.Prelude.{◌≡◌, ◌↔◌, ℕ, ◌<◌, ◌≤◌, ◌^◌, List, [], ◌++◌, length, Some};
+ghost use Rattle.std.specs.Prelude.{Result};
 ghost use Rattle.std.specs.List.{AllByRecursion};
 ghost use Rattle.ber_tlv.specs.Objects.{Read, object_at, objects_of};
 ghost use Rattle.ber_tlv.specs.Tag.{IsTag};

@@ -1,9 +1,11 @@
 //! Reading one TLV.
-ghost use Rattle.std.specs.Prelude.{◌≡◌, ℕ, ◌+◌, ◌≤◌, ◌%◌, ◌↔◌, List, ◌∷◌, ◌++◌, length, drop, IsTrue, IfOk, IsOkAnd, IsErrOf, MatchResult};
+ghost use Rattle.std.specs.Prelude.{◌≡◌, ℕ, ◌+◌, ◌≤◌, ◌%◌, ◌↔◌, List, ◌∷◌, ◌++◌, length, drop};
+ghost use Rattle.std.specs.Prelude.{IsTrue, IfOk, IsOkAnd, IsErrOf, MatchResult};
 ghost use Rattle.ber_tlv.specs.Tag.{SpellsTag, HasBadTag};
 ghost use Rattle.ber_tlv.specs.Length.{SpellsLength};
 ghost use Rattle.ber_tlv.specs.Tlv.{BeginsWith, HasBadLength, Refuses};
-ghost use Rattle.ber_tlv.specs.Parts.{RefusesTag, RefusesLength, BeginsWithTag, BeginsWithLength, StandsFirst};
+ghost use Rattle.ber_tlv.specs.Parts.{RefusesTag, RefusesLength, BeginsWithTag, BeginsWithLength};
+ghost use Rattle.ber_tlv.specs.Parts.{StandsFirst};
 ghost use Rattle.ber_tlv.specs.declared.fault.TlvFault.{TlvFault};
 
 use crate::fault::TlvFault;

@@ -1,6 +1,7 @@
 -- A statement for the ISD-R beside the card of a profile alone.
 use Rattle.std.proofs.Common.{◌≡◌, ◌≢◌, ◌≤◌, ◌<◌, ◌+◌, ℕ, Bool, true, false, cond, nat_eq, List, []}
-use Rattle.std.proofs.Common.{◌∷◌, ◌++◌, length, Option, Some, None, refl, sym, ◌∙◌, ap, subst, arith}
+use Rattle.std.proofs.Common.{◌∷◌, ◌++◌, length, Option, Some, None, refl, sym, ◌∙◌, ap, subst}
+use Rattle.std.proofs.Common.{arith}
 use Rattle.std.proofs.Common.{inl, inr, length-set}
 use Rattle.std.proofs.lemmas.Bool.{eqb-false, true≢false}
 use Rattle.std.proofs.lemmas.Option.{get_or_from_slice_get, none-some, slice_get_within}
@@ -37,7 +38,8 @@ use Rattle.card_core.proofs.AloneLemmas.{steps_nowhere}
 use Rattle.card_core.proofs.AloneStepLemmas.{GoesBy, card_here, here_or_not, port_below}
 use Rattle.card_core.proofs.CarriedLemmas.{IsCarried, IsOfRequest, desk_carried}
 use Rattle.card_core.proofs.GivenLemmas.{come_by, given_by, given_by_move, lines_give, move_found}
-use Rattle.card_core.proofs.MovedLemmas.{card_at_unmoved, count_stays, mode_stays, none_at, not_held}
+use Rattle.card_core.proofs.MovedLemmas.{card_at_unmoved, count_stays, mode_stays, none_at}
+use Rattle.card_core.proofs.MovedLemmas.{not_held}
 use Rattle.card_core.proofs.MovedLemmas.{stands}
 use Rattle.card_core.proofs.PortLemmas.{found_held}
 use Rattle.card_core.proofs.SeenLemmas.{each_at, seen_alike}

@@ -1,5 +1,6 @@
 -- What a profile is given decides its answers.
-use Rattle.std.proofs.Common.{◌≡◌, ℕ, Bool, true, false, List, [], ◌∷◌, ◌++◌, Option, Some, None, sym}
+use Rattle.std.proofs.Common.{◌≡◌, ℕ, Bool, true, false, List, [], ◌∷◌, ◌++◌, Option, Some, None}
+use Rattle.std.proofs.Common.{sym}
 use Rattle.std.proofs.Common.{◌∙◌, ap, subst, inl, inr}
 use Rattle.apdu_codec.proofs.MeaningLemmas.{Spells-once}
 use Rattle.apdu_codec.specs.declared.answers.Answer.{Answer}

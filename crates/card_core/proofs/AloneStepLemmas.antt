@@ -1,6 +1,7 @@
 -- Each statement but those for the ISD-R beside the card of a profile alone.
 use Rattle.std.proofs.Common.{◌≡◌, ◌≢◌, ◌⊎◌, ◌<◌, ◌+◌, ℕ, Bool, true, false, cond, nat_eq, List, []}
-use Rattle.std.proofs.Common.{◌∷◌, ◌++◌, length, Option, Some, None, Result, Ok, Err, refl, sym, ◌∙◌}
+use Rattle.std.proofs.Common.{◌∷◌, ◌++◌, length, Option, Some, None, Result, Ok, Err, refl, sym}
+use Rattle.std.proofs.Common.{◌∙◌}
 use Rattle.std.proofs.Common.{ap, subst, arith, inl, inr, eqb-true}
 use Rattle.std.proofs.Common.{append-nil}
 use Rattle.std.proofs.lemmas.Bool.{eqb-false}
@@ -24,8 +25,10 @@ use Rattle.profile_card.specs.Step.Event.{Command, Power as PowerCycle, Reset as
 use Rattle.record_codec.specs.IsDurable.{IsDurable}
 use Rattle.record_codec.specs.declared.durable.Heads.{Heads}
 use Rattle.uicc_channels.specs.CommandOutcome.{refused}
-use Rattle.card_core.proofs.AloneLemmas.{Goes, IsNow, Leaves, bytes_here, bytes_not_here, given_here}
-use Rattle.card_core.proofs.AloneLemmas.{given_not, goes_answered, goes_given, goes_quiet, goes_told}
+use Rattle.card_core.proofs.AloneLemmas.{Goes, IsNow, Leaves, bytes_here, bytes_not_here}
+use Rattle.card_core.proofs.AloneLemmas.{given_here}
+use Rattle.card_core.proofs.AloneLemmas.{given_not, goes_answered, goes_given, goes_quiet}
+use Rattle.card_core.proofs.AloneLemmas.{goes_told}
 use Rattle.card_core.proofs.AloneLemmas.{leaves_all, now_at, one_port}
 use Rattle.card_core.proofs.AloneLemmas.{stays, steps_nowhere}
 use Rattle.card_core.proofs.CameLemmas.{state_with}
@@ -35,7 +38,8 @@ use Rattle.card_core.proofs.MovedLemmas.{stands}
 use Rattle.card_core.proofs.SeenLemmas.{seen_alike}
 use Rattle.card_core.proofs.SoundLemmas.{sound_card}
 use Rattle.card_core.proofs.StayLemmas.{heads_where, held_elsewhere, other_port}
-use Rattle.card_core.specs.Failed.{FailsWith, FailsLoadWith, failed_begin, failed_command, failed_end}
+use Rattle.card_core.specs.Failed.{FailsWith, FailsLoadWith, failed_begin, failed_command}
+use Rattle.card_core.specs.Failed.{failed_end}
 use Rattle.card_core.specs.Failed.{failed_piece}
 use Rattle.card_core.specs.ManageLsi.{counted_at, lsi_asked_for, lsi_made, lsi_reset}
 use Rattle.card_core.specs.OwnCommand.{own_made}

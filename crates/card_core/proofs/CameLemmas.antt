@@ -1,5 +1,6 @@
 -- What a statement at one port makes of a whole card.
-use Rattle.std.proofs.Common.{◌≡◌, ◌≢◌, ◌<◌, ◌+◌, ◌^◌, ℕ, List, [], ◌∷◌, ◌++◌, length, map, refl, sym}
+use Rattle.std.proofs.Common.{◌≡◌, ◌≢◌, ◌<◌, ◌+◌, ◌^◌, ℕ, List, [], ◌∷◌, ◌++◌, length, map, refl}
+use Rattle.std.proofs.Common.{sym}
 use Rattle.std.proofs.Common.{◌∙◌, ap, subst, get_or, Some, Result, Ok, Err}
 use Rattle.std.specs.Prelude.{OnOk, slice_get, slice_set}
 use Rattle.record_codec.specs.IsDurable.{IsDurable}

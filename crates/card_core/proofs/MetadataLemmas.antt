@@ -1,6 +1,7 @@
 -- The head that metadata give is one that a profile may have.
 use Rattle.std.proofs.Common.{◌≡◌, ◌≤◌, ℕ, Bool, true, false, cond, ◌&&◌, List, [], ◌∷◌, length}
-use Rattle.std.proofs.Common.{nat_eq, nat_le, Option, Some, None, Ok, refl, arith, if◌then◌else◌, subst, ap, suc}
+use Rattle.std.proofs.Common.{nat_eq, nat_le, Option, Some, None, Ok, refl, arith, if◌then◌else◌}
+use Rattle.std.proofs.Common.{subst, ap, suc}
 use Rattle.std.proofs.lemmas.Bool.{leb-true}
 use Rattle.std.specs.List.{AllByRecursion}
 use Rattle.std.specs.Option.{ok_or}

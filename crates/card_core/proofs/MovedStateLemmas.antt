@@ -1,5 +1,6 @@
 -- What stands at the ports after a request.
-use Rattle.std.proofs.Common.{◌≡◌, ◌+◌, ℕ, List, length, map, Option, Some, None, ap, sym, ◌∙◌, arith}
+use Rattle.std.proofs.Common.{◌≡◌, ◌+◌, ℕ, List, length, map, Option, Some, None, ap, sym, ◌∙◌}
+use Rattle.std.proofs.Common.{arith}
 use Rattle.std.specs.Prelude.{slice_get}
 use Rattle.isdr_commands.specs.declared.moves.Move.{Move}
 use Rattle.record_codec.specs.declared.durable.Durable.{Durable}

@@ -1,5 +1,6 @@
 -- A loop over a list, so far.
-use Rattle.std.proofs.Common.{◌≡◌, ◌≢◌, ◌≤◌, ◌<◌, ◌+◌, ℕ, Bool, true, false, nat_eq, List, length, Some, refl}
+use Rattle.std.proofs.Common.{◌≡◌, ◌≢◌, ◌≤◌, ◌<◌, ◌+◌, ℕ, Bool, true, false, nat_eq, List, length}
+use Rattle.std.proofs.Common.{Some, refl}
 use Rattle.std.proofs.Common.{sym, ◌∙◌, subst, arith, eqb-true, length-set}
 use Rattle.std.proofs.lemmas.Bool.{eqb-false}
 use Rattle.std.proofs.lemmas.Option.{slice_get_within}

@@ -1,6 +1,8 @@
 -- What a card keeps stays a card's with all that comes to it, and its loads stay sound.
-use Rattle.std.proofs.Common.{◌≡◌, ◌⊎◌, ◌<◌, ◌+◌, ◌^◌, ℕ, zero, suc, Bool, true, false, cond, nat_eq, List, []}
-use Rattle.std.proofs.Common.{◌∷◌, ◌++◌, Option, Some, None, Result, Ok, Err, refl, sym, subst, inl, inr}
+use Rattle.std.proofs.Common.{◌≡◌, ◌⊎◌, ◌<◌, ◌+◌, ◌^◌, ℕ, zero, suc, Bool, true, false, cond}
+use Rattle.std.proofs.Common.{nat_eq, List, []}
+use Rattle.std.proofs.Common.{◌∷◌, ◌++◌, Option, Some, None, Result, Ok, Err, refl, sym, subst, inl}
+use Rattle.std.proofs.Common.{inr}
 use Rattle.std.specs.List.{AllByRecursion}
 use Rattle.std.specs.Prelude.{IfSome, option_map, slice_index_or, slice_set}
 use Rattle.apdu_codec.specs.Command.{Apdu}

@@ -1,6 +1,8 @@
 -- A stretch of statements that stay at their ports, port by port.
-use Rattle.std.proofs.Common.{◌≡◌, ◌≢◌, ◌<◌, ℕ, Bool, true, false, cond, nat_eq, List, [], ◌∷◌, ◌++◌}
-use Rattle.std.proofs.Common.{filter, length, length-set, None, refl, sym, ◌∙◌, ap, subst, arith, eqb-true}
+use Rattle.std.proofs.Common.{◌≡◌, ◌≢◌, ◌<◌, ℕ, Bool, true, false, cond, nat_eq, List, [], ◌∷◌}
+use Rattle.std.proofs.Common.{◌++◌}
+use Rattle.std.proofs.Common.{filter, length, length-set, None, refl, sym, ◌∙◌, ap, subst, arith}
+use Rattle.std.proofs.Common.{eqb-true}
 use Rattle.std.proofs.lemmas.Bool.{eq-eqb, eqb-false}
 use Rattle.std.proofs.lemmas.List.Elements.{filter-append}
 use Rattle.std.specs.List.{AllByRecursion}
@@ -16,7 +18,8 @@ use Rattle.card_core.proofs.StretchLemmas.{entries_again, local_stays, view_agai
 use Rattle.card_core.specs.Run.{IsOnCard}
 use Rattle.card_core.specs.Sound.{IsSoundState}
 use Rattle.card_core.specs.Stepped.{AreSteps, Stepped}
-use Rattle.card_core.specs.Stretch.{IsMadeAt, IsOfStretch, LeavesCard, PortView, RunsByItself, StaysAt}
+use Rattle.card_core.specs.Stretch.{IsMadeAt, IsOfStretch, LeavesCard, PortView, RunsByItself}
+use Rattle.card_core.specs.Stretch.{StaysAt}
 use Rattle.card_core.specs.Stretch.{entries_of, is_for, lines_at, view_at}
 use Rattle.card_core.specs.World.{Made, WorldState}
 use Rattle.card_core.specs.declared.entry.Entry.{Entry}

@@ -1,9 +1,7 @@
 ghost use Rattle.std.specs.Prelude.{◌≡◌, ℕ, Bool, List};
 ghost use Rattle.std.specs.List.{AllByRecursion};
-ghost use Rattle.apdu_codec.specs.declared.answers.Answer as answers;
 ghost use Rattle.profile_card.specs.Card.{Card};
-ghost use Rattle.profile_card.specs.Step.{Event as CardEvent};
-ghost use Rattle.card_core.specs.Alone.{IsAnsweredAlone, RunsAlone, StartsAlone};
+ghost use Rattle.card_core.specs.Alone.{IsAnsweredAlone, StartsAlone};
 ghost use Rattle.card_core.specs.Run.{IsOnCard};
 ghost use Rattle.card_core.specs.Share.{AreShares, Share};
 ghost use Rattle.card_core.specs.Sound.{BringsBytes, HasSoundLoads, IsSoundState};

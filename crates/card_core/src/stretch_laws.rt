@@ -18,7 +18,7 @@ pub fn unshared_statements_stay_at_their_port()
 {}
 
 /// What such a statement makes at its port, its line too, depends on nothing but what stands there,
-/// the content there, and how the ports are shared and counted.
+/// the content there, the mode and number of the ports, and how many shared statements there were.
 pub fn unshared_statements_look_at_their_port()
     ensures { (state other : WorldState) (port : ℕ) (event : Event) (failed : Bool)
         (made : Made) → IsSoundState state → port < length state.ports → port < length other.ports

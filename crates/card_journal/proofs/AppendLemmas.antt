@@ -1,5 +1,6 @@
 -- A record's row behind those of a card.
-use Rattle.std.proofs.Common.{◌≡◌, inl, inr, ℕ, ◌+◌, ◌-◌, ◌<◌, ◌≤◌, List, [], ◌∷◌, ◌++◌, length, Some, IfSome, Result, Ok, Err, OnOk, sym, ◌∙◌, ap, subst, arith}
+use Rattle.std.proofs.Common.{◌≡◌, inl, inr, ℕ, ◌+◌, ◌-◌, ◌<◌, ◌≤◌, List, [], ◌∷◌, ◌++◌, length}
+use Rattle.std.proofs.Common.{Some, IfSome, Result, Ok, Err, OnOk, sym, ◌∙◌, ap, subst, arith}
 use Rattle.flash_pages.specs.Append.{AppendsRow, HasRowsOrOneMore, IsTornRow, LeavesTornRow}
 use Rattle.flash_pages.specs.Bank.{bank_bytes, end_of, start_of}
 use Rattle.flash_pages.specs.Bytes.{DiffersIn, patch}
@@ -8,9 +9,11 @@ use Rattle.flash_pages.specs.Rows.{HasRows, behind_gate, row_of}
 use Rattle.flash_pages.specs.Switch.{live_of}
 use Rattle.flash_pages.proofs.BlankBehind.{EndsBlank-ends, EndsBlank-rows, bank-append}
 use Rattle.flash_pages.proofs.Outcome.{torn_in_bank}
-use Rattle.flash_pages.proofs.Patches.{DiffersIn-patch, DiffersIn-trans, DiffersIn-wider, part_outside}
+use Rattle.flash_pages.proofs.Patches.{DiffersIn-patch, DiffersIn-trans, DiffersIn-wider}
+use Rattle.flash_pages.proofs.Patches.{part_outside}
 use Rattle.flash_pages.proofs.RowLemmas.{length-behind_gate, length-row_of}
-use Rattle.flash_pages.proofs.Throughout.{MayLeaveOnly-settled, MayLeaveOnly-weaken, Throughout-append, Throughout-begin}
+use Rattle.flash_pages.proofs.Throughout.{MayLeaveOnly-settled, MayLeaveOnly-weaken}
+use Rattle.flash_pages.proofs.Throughout.{Throughout-append, Throughout-begin}
 use Rattle.flash_pages.proofs.Touched.{at_some, flash_size, from_each, known_before, same_some}
 use Rattle.record_codec.specs.Apply.{apply}
 use Rattle.record_codec.specs.FitsCard.{FitsCard}

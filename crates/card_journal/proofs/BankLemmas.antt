@@ -1,5 +1,6 @@
 -- A bank of a flash, read row by row.
-use Rattle.std.proofs.Common.{◌≡◌, ℕ, ◌-◌, ◌*◌, ◌^◌, ◌<◌, ◌≤◌, List, [], ◌∷◌, ◌++◌, length, drop, Option, Some, None, IfSome, IsSomeAnd, refl, sym, ◌∙◌, subst, arith}
+use Rattle.std.proofs.Common.{◌≡◌, ℕ, ◌-◌, ◌*◌, ◌^◌, ◌<◌, ◌≤◌, List, [], ◌∷◌, ◌++◌, length, drop}
+use Rattle.std.proofs.Common.{Option, Some, None, IfSome, IsSomeAnd, refl, sym, ◌∙◌, subst, arith}
 use Rattle.std.proofs.lemmas.List.{length-take}
 use Rattle.card_journal.specs.Next.{IsNext}
 use Rattle.card_journal.specs.Read.{BankHolds, IsRowAt, OnlyReads, ReadUpTo}
@@ -11,7 +12,8 @@ use Rattle.flash_pages.specs.Rows.{LiesBefore, RowIs, RowsUpTo}
 use Rattle.flash_pages.specs.declared.bank.Bank.{Bank}
 use Rattle.flash_pages.specs.declared.row.RowAt.TheVariants.{Open, Overrun}
 use Rattle.flash_pages.proofs.Reading.{RowsUpTo-start, bank-end, bank-open, bank-overrun}
-use Rattle.flash_pages.proofs.Touched.{GoesOn-refl, GoesOn-trans, LeavesOnly-trans, at_some, from_each}
+use Rattle.flash_pages.proofs.Touched.{GoesOn-refl, GoesOn-trans, LeavesOnly-trans, at_some}
+use Rattle.flash_pages.proofs.Touched.{from_each}
 use Rattle.record_codec.specs.IsDurable.{IsDurable}
 use Rattle.record_codec.specs.Sizes.{Codes}
 use Rattle.record_codec.specs.declared.durable.Durable.{Durable}

@@ -1,5 +1,6 @@
 -- A card ends clean in one way at most.
-use Rattle.std.proofs.Common.{◌≡◌, ◌↔◌, ℕ, ◌-◌, ◌*◌, ◌<◌, Bool, IsTrue, List, length, IfSome, sym, ◌∙◌, ap, subst, arith}
+use Rattle.std.proofs.Common.{◌≡◌, ◌↔◌, ℕ, ◌-◌, ◌*◌, ◌<◌, Bool, IsTrue, List, length, IfSome, sym}
+use Rattle.std.proofs.Common.{◌∙◌, ap, subst, arith}
 use Rattle.flash_pages.specs.Append.{EndsBlank}
 use Rattle.flash_pages.specs.Bank.{IsPlaceIn, bank_bytes, end_of, start_of}
 use Rattle.flash_pages.specs.Bytes.{IsErased}

@@ -1,12 +1,14 @@
 -- A bank, erased block by block.
-use Rattle.std.proofs.Common.{◌≡◌, ℕ, ◌+◌, ◌-◌, ◌*◌, ◌<◌, ◌≤◌, [], length, Some, IfSome, Result, IsTrue, is_ok, refl, sym, ◌∙◌, ap, subst, arith}
+use Rattle.std.proofs.Common.{◌≡◌, ℕ, ◌+◌, ◌-◌, ◌*◌, ◌<◌, ◌≤◌, [], length, Some, IfSome, Result}
+use Rattle.std.proofs.Common.{IsTrue, is_ok, refl, sym, ◌∙◌, ap, subst, arith}
 use Rattle.flash_pages.specs.Bank.{start_of}
 use Rattle.flash_pages.specs.Bytes.{IsErased, blank, patch}
 use Rattle.flash_pages.specs.Flash.{Changes, FlashState, IsFlash, Touches, card_blocks}
 use Rattle.flash_pages.specs.declared.bank.Bank.{Bank}
 use Rattle.flash_pages.proofs.BlankBehind.{erased-more}
 use Rattle.flash_pages.proofs.Patches.{length-blank}
-use Rattle.flash_pages.proofs.Touched.{Touches-from_changes, Touches-wider, at_some, flash_size, from_each, known_before, same_some}
+use Rattle.flash_pages.proofs.Touched.{Touches-from_changes, Touches-wider, at_some, flash_size}
+use Rattle.flash_pages.proofs.Touched.{from_each, known_before, same_some}
 use Rattle.port_io.specs.declared.source.Failed.{Failed}
 
 nothing : [] ≡ blank 0

@@ -1,5 +1,6 @@
 -- What an image holds.
-use Rattle.std.proofs.Common.{◌≡◌, ℕ, ◌<◌, ◌^◌, List, [], ◌∷◌, ◌++◌, length, refl, sym, ◌∙◌, ap, subst}
+use Rattle.std.proofs.Common.{◌≡◌, ℕ, ◌<◌, ◌^◌, List, [], ◌∷◌, ◌++◌, length, refl, sym, ◌∙◌, ap}
+use Rattle.std.proofs.Common.{subst}
 use Rattle.card_journal.specs.Image.{AreCodings, Follow, HoldsCard, Leave, MakesCard, live_bytes}
 use Rattle.flash_pages.specs.Rows.{HasRows}
 use Rattle.flash_pages.proofs.Unique.{unique}

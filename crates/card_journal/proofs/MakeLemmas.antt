@@ -1,18 +1,23 @@
 -- A new card on a blank flash.
-use Rattle.std.proofs.Common.{◌≡◌, inl, inr, ⊎_elim, ℕ, zero, suc, ◌+◌, ◌*◌, ◌%◌, ◌≤◌, List, [], ◌∷◌, length, replicate, Option, Some, None, IfSome, Result, Ok, Err, OnOk, IfOk, IfErr, refl, sym, ◌∙◌, ap, subst, arith}
+use Rattle.std.proofs.Common.{◌≡◌, inl, inr, ⊎_elim, ℕ, zero, suc, ◌+◌, ◌*◌, ◌%◌, ◌≤◌, List, []}
+use Rattle.std.proofs.Common.{◌∷◌, length, replicate, Option, Some, None, IfSome, Result, Ok, Err}
+use Rattle.std.proofs.Common.{OnOk, IfOk, IfErr, refl, sym, ◌∙◌, ap, subst, arith}
 use Rattle.std.specs.Prelude.{◌==◌, count_by}
 use Rattle.flash_pages.specs.Append.{AppendsRow, EndsAt, EndsBlank, IsTornRow, LeavesTornRow}
 use Rattle.flash_pages.specs.Bank.{IsPlaceIn, bank_bytes, end_of}
 use Rattle.flash_pages.specs.Bytes.{DiffersIn, IsErased, blank, patch}
-use Rattle.flash_pages.specs.Flash.{FlashState, IsFlash, IsSettled, LeavesOnly, MayLeaveOnly, card_blocks}
+use Rattle.flash_pages.specs.Flash.{FlashState, IsFlash, IsSettled, LeavesOnly, MayLeaveOnly}
+use Rattle.flash_pages.specs.Flash.{card_blocks}
 use Rattle.flash_pages.specs.Rows.{HasRows, row_of}
 use Rattle.flash_pages.specs.Switch.{live_of}
-use Rattle.flash_pages.proofs.BlankBehind.{EndsBlank-blank, EndsBlank-ends, EndsBlank-rows, bank-append}
+use Rattle.flash_pages.proofs.BlankBehind.{EndsBlank-blank, EndsBlank-ends, EndsBlank-rows}
+use Rattle.flash_pages.proofs.BlankBehind.{bank-append}
 use Rattle.flash_pages.proofs.Outcome.{torn_in_bank}
 use Rattle.flash_pages.proofs.Patches.{DiffersIn-patch, length-blank, part-blank, part_outside}
 use Rattle.flash_pages.proofs.RowLemmas.{length-row_of}
 use Rattle.flash_pages.proofs.Throughout.{MayLeaveOnly-settled}
-use Rattle.flash_pages.proofs.Touched.{at_some, flash_size, from_each, known, known_before, same_some}
+use Rattle.flash_pages.proofs.Touched.{at_some, flash_size, from_each, known, known_before}
+use Rattle.flash_pages.proofs.Touched.{same_some}
 use Rattle.flash_pages.proofs.Unique.{unique}
 use Rattle.record_codec.specs.Begin.{IsBegun}
 use Rattle.record_codec.specs.FitsCard.{FitsCard}
@@ -20,7 +25,9 @@ use Rattle.record_codec.specs.IsDurable.{IsDurable}
 use Rattle.record_codec.specs.Sizes.{Codes}
 use Rattle.record_codec.specs.declared.durable.Durable.{Durable}
 use Rattle.record_codec.specs.declared.record.Record.{Record}
-use Rattle.record_codec.specs.declared.record.Record.TheVariants.{PutCard, PutProfile, Content, Bind, Unbind, Gone, Name, NoteGone}
+use Rattle.record_codec.specs.declared.record.Record.TheVariants.{PutCard, PutProfile, Content}
+use Rattle.record_codec.specs.declared.record.Record.TheVariants.{Bind, Unbind, Gone, Name}
+use Rattle.record_codec.specs.declared.record.Record.TheVariants.{NoteGone}
 use Rattle.card_journal.specs.Image.{AreCodings, HoldsCard, Leave, bank_of, live_bytes, switch_row}
 use Rattle.card_journal.specs.Made.{FirstUsedIs, HoldsNoneOr, IsBlank, IsFirstUsed}
 use Rattle.card_journal.specs.MakeFault.{IsReason}

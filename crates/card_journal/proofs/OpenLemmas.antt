@@ -1,7 +1,10 @@
 -- What is read when a store is opened.
-use Rattle.std.proofs.Common.{◌≡◌, ◌≢◌, ◌↔◌, ℕ, ◌+◌, ◌-◌, ◌*◌, ◌<◌, ◌≤◌, Bool, IsTrue, List, [], length, take, drop, slice_index, Option, Some, None, is_none, IfSome, EachIndex, get_or, refl, sym, ◌∙◌, ap, subst, arith}
+use Rattle.std.proofs.Common.{◌≡◌, ◌≢◌, ◌↔◌, ℕ, ◌+◌, ◌-◌, ◌*◌, ◌<◌, ◌≤◌, Bool, IsTrue, List, []}
+use Rattle.std.proofs.Common.{length, take, drop, slice_index, Option, Some, None, is_none, IfSome}
+use Rattle.std.proofs.Common.{EachIndex, get_or, refl, sym, ◌∙◌, ap, subst, arith}
 use Rattle.std.proofs.lemmas.Bool.{false≢true}
-use Rattle.std.proofs.lemmas.List.{get_or-drop, get_or-replicate, get_or-take, length-take, take-take, take_at}
+use Rattle.std.proofs.lemmas.List.{get_or-drop, get_or-replicate, get_or-take, length-take}
+use Rattle.std.proofs.lemmas.List.{take-take, take_at}
 use Rattle.flash_pages.specs.Bank.{IsPlaceIn, bank_bytes, end_of, start_of}
 use Rattle.flash_pages.specs.Bytes.{IsErased, blank, part}
 use Rattle.flash_pages.specs.Flash.{FlashState, IsFlash, Reads, card_blocks}

@@ -1,18 +1,23 @@
 -- A pooled content changed.
-use Rattle.std.proofs.Common.{◌≡◌, ◌≢◌, ℕ, ◌≤◌, Bool, true, false, cond, List, [], ◌∷◌, length, filter, set, Option, refl, sym, ◌∙◌, ap, subst, arith}
+use Rattle.std.proofs.Common.{◌≡◌, ◌≢◌, ℕ, ◌≤◌, Bool, true, false, cond, List, [], ◌∷◌, length}
+use Rattle.std.proofs.Common.{filter, set, Option, refl, sym, ◌∙◌, ap, subst, arith}
 use Rattle.std.specs.Prelude.{IsSomeAnd, slice_get}
 use Rattle.std.specs.List.{AllByRecursion}
 use Rattle.plain_lists.specs.EachTwo.{EachTwo}
 use Rattle.file_rows.specs.Change.{with_file}
 use Rattle.file_rows.specs.Content.{file_at, heads_of, use_of}
 use Rattle.file_rows.specs.declared.change.Change.{Change}
-use Rattle.file_rows.specs.declared.change.Change.TheVariants.{WriteRange, WriteRecord, PinSet, FileAdd, FileGone, FileState, FileSize}
+use Rattle.file_rows.specs.declared.change.Change.TheVariants.{WriteRange, WriteRecord, PinSet}
+use Rattle.file_rows.specs.declared.change.Change.TheVariants.{FileAdd, FileGone, FileState}
+use Rattle.file_rows.specs.declared.change.Change.TheVariants.{FileSize}
 use Rattle.file_rows.specs.declared.head.FileHead.{FileHead}
 use Rattle.file_rows.specs.declared.row.FileRow.{FileRow}
 use Rattle.file_rows.proofs.EditLemmas.{is_some_and, some_is}
 use Rattle.card_journal.specs.Pool.{CanWrite, HasSizeRoom}
 use Rattle.record_codec.specs.Pooled.{pooled_rows, pooled_size}
-use Rattle.card_journal.proofs.PoolLemmas.{IsSized, pooled_bytes, heads_of-pooled_rows, pooled_rows-pooled_bytes, size-heads_of, sized-pooled_rows, use-pooled_rows}
+use Rattle.card_journal.proofs.PoolLemmas.{IsSized, pooled_bytes, heads_of-pooled_rows}
+use Rattle.card_journal.proofs.PoolLemmas.{pooled_rows-pooled_bytes, size-heads_of}
+use Rattle.card_journal.proofs.PoolLemmas.{sized-pooled_rows, use-pooled_rows}
 use Rattle.record_codec.proofs.RowLemmas.{IsAt, none_at, row_there, with_there}
 use Rattle.record_codec.proofs.PooledLemmas.{row-at}
 

@@ -1,10 +1,14 @@
 -- A file changed where it stands.
-use Rattle.std.proofs.Common.{◌≡◌, ℕ, zero, suc, ◌+◌, ◌-◌, ◌*◌, ◌≤◌, List, [], ◌∷◌, ◌++◌, length, take, drop, set, Option, Some, refl, sym, ◌∙◌, ap, subst, arith}
+use Rattle.std.proofs.Common.{◌≡◌, ℕ, zero, suc, ◌+◌, ◌-◌, ◌*◌, ◌≤◌, List, [], ◌∷◌, ◌++◌, length}
+use Rattle.std.proofs.Common.{take, drop, set, Option, Some, refl, sym, ◌∙◌, ap, subst, arith}
 use Rattle.std.specs.Prelude.{slice_get, IsSomeAnd, replicate}
-use Rattle.std.proofs.lemmas.List.{length-append, length-replicate, length-drop, length-take, length-take-le, take-append-drop, drop-drop}
+use Rattle.std.proofs.lemmas.List.{length-append, length-replicate, length-drop, length-take}
+use Rattle.std.proofs.lemmas.List.{length-take-le, take-append-drop, drop-drop}
 use Rattle.file_rows.specs.Change.{resized, with_body, with_life, with_record, with_size, written}
 use Rattle.file_rows.specs.declared.change.Change.{Change}
-use Rattle.file_rows.specs.declared.change.Change.TheVariants.{WriteRange, WriteRecord, PinSet, FileAdd, FileGone, FileState, FileSize}
+use Rattle.file_rows.specs.declared.change.Change.TheVariants.{WriteRange, WriteRecord, PinSet}
+use Rattle.file_rows.specs.declared.change.Change.TheVariants.{FileAdd, FileGone, FileState}
+use Rattle.file_rows.specs.declared.change.Change.TheVariants.{FileSize}
 use Rattle.file_rows.specs.declared.head.FileHead.{FileHead}
 use Rattle.file_rows.specs.declared.head.Life.{Life}
 use Rattle.file_rows.specs.declared.row.FileRow.{FileRow}

@@ -1,8 +1,11 @@
 -- Bodies one behind another.
-use Rattle.std.proofs.Common.{◌≡◌, ℕ, zero, suc, ◌+◌, ◌*◌, ◌≤◌, List, [], ◌∷◌, ◌++◌, length, take, drop, set, Some, refl, sym, ◌∙◌, ap, arith, append_assoc, add_assoc, zero-add, append-nil}
+use Rattle.std.proofs.Common.{◌≡◌, ℕ, zero, suc, ◌+◌, ◌*◌, ◌≤◌, List, [], ◌∷◌, ◌++◌, length, take}
+use Rattle.std.proofs.Common.{drop, set, Some, refl, sym, ◌∙◌, ap, arith, append_assoc, add_assoc}
+use Rattle.std.proofs.Common.{zero-add, append-nil}
 use Rattle.std.specs.Prelude.{replicate, slice_get}
 use Rattle.std.specs.List.{AllByRecursion, flat_map}
-use Rattle.std.proofs.lemmas.List.{length-take-le, length-drop, length-append, length-replicate, take-append-drop, drop-drop}
+use Rattle.std.proofs.lemmas.List.{length-take-le, length-drop, length-append, length-replicate}
+use Rattle.std.proofs.lemmas.List.{take-append-drop, drop-drop}
 use Rattle.std.proofs.lemmas.List.Sums.{sum_by-append, sum_by-cons}
 use Rattle.std.proofs.Math.Seq.{drop-append_seam, take-append_seam, take-add}
 use Rattle.file_rows.specs.Change.{new_file}

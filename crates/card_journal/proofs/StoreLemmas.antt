@@ -1,18 +1,24 @@
 -- What a store keeps, from call to call.
-use Rattle.std.proofs.Common.{Bool, IsTrue, ◌↔◌, IsSome, drop, ◌^◌, ◌≡◌, ◌⊎◌, inl, inr, ⊎_elim, ℕ, ◌+◌, ◌-◌, ◌*◌, ◌<◌, ◌≤◌, List, length, Option, Some, None, IfSome, Result, Ok, Err, IfOk, OnOk, refl, sym, ◌∙◌, subst, arith}
+use Rattle.std.proofs.Common.{Bool, IsTrue, ◌↔◌, IsSome, drop, ◌^◌, ◌≡◌, ◌⊎◌, inl, inr, ⊎_elim, ℕ}
+use Rattle.std.proofs.Common.{◌+◌, ◌-◌, ◌*◌, ◌<◌, ◌≤◌, List, length, Option, Some, None, IfSome}
+use Rattle.std.proofs.Common.{Result, Ok, Err, IfOk, OnOk, refl, sym, ◌∙◌, subst, arith}
 use Rattle.std.specs.Prelude.{unwrap_or}
 use Rattle.flash_pages.specs.Append.{AppendsRow}
 use Rattle.flash_pages.specs.Bank.{IsPlaceIn, end_of, start_of}
 use Rattle.flash_pages.specs.Bytes.{IsErased, blank, part, patch}
 use Rattle.std.proofs.lemmas.Bool.{false≢true}
 use Rattle.std.proofs.lemmas.List.{length-take}
-use Rattle.flash_pages.specs.Flash.{FlashState, GoesOn, IsFlash, IsSettled, MayLeaveOnly, Restarts, Throughout, card_blocks}
+use Rattle.flash_pages.specs.Flash.{FlashState, GoesOn, IsFlash, IsSettled, MayLeaveOnly, Restarts}
+use Rattle.flash_pages.specs.Flash.{Throughout, card_blocks}
 use Rattle.flash_pages.specs.Switch.{live_of}
 use Rattle.flash_pages.specs.Rows.{row_of}
 use Rattle.flash_pages.proofs.Patches.{DiffersIn-patch, part-blank, part_outside}
 use Rattle.flash_pages.proofs.RowLemmas.{length-row_of}
-use Rattle.flash_pages.proofs.Throughout.{MayLeaveOnly-bytes, MayLeaveOnly-settled, MayLeaveOnly-weaken, Throughout-begin, Throughout-restart, Throughout-trans, Throughout-weaken}
-use Rattle.flash_pages.proofs.Touched.{GoesOn-trans, LeavesOnly-trans, at_some, flash_size, from_each, known, known_before, same_some}
+use Rattle.flash_pages.proofs.Throughout.{MayLeaveOnly-bytes, MayLeaveOnly-settled}
+use Rattle.flash_pages.proofs.Throughout.{MayLeaveOnly-weaken, Throughout-begin, Throughout-restart}
+use Rattle.flash_pages.proofs.Throughout.{Throughout-trans, Throughout-weaken}
+use Rattle.flash_pages.proofs.Touched.{GoesOn-trans, LeavesOnly-trans, at_some, flash_size}
+use Rattle.flash_pages.proofs.Touched.{from_each, known, known_before, same_some}
 use Rattle.record_codec.specs.Apply.{apply}
 use Rattle.record_codec.specs.declared.durable.Durable.{Durable}
 use Rattle.record_codec.specs.declared.record.Record.{Record}

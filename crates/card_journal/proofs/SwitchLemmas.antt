@@ -1,16 +1,20 @@
 -- A switch to the idle bank.
-use Rattle.std.proofs.Common.{◌≡◌, ◌≢◌, ◌⊎◌, inl, inr, ℕ, zero, suc, ◌+◌, ◌-◌, ◌*◌, ◌<◌, ◌≤◌, IsTrue, is_ok, List, [], ◌∷◌, length, map, slice_index, Option, Some, None, IfSome, Result, sym, ◌∙◌, ap, subst, arith}
+use Rattle.std.proofs.Common.{◌≡◌, ◌≢◌, ◌⊎◌, inl, inr, ℕ, zero, suc, ◌+◌, ◌-◌, ◌*◌, ◌<◌, ◌≤◌}
+use Rattle.std.proofs.Common.{IsTrue, is_ok, List, [], ◌∷◌, length, map, slice_index, Option, Some}
+use Rattle.std.proofs.Common.{None, IfSome, Result, sym, ◌∙◌, ap, subst, arith}
 use Rattle.std.specs.Prelude.{⊤}
 use Rattle.std.proofs.lemmas.Bool.{cases_eq}
 use Rattle.flash_pages.specs.Append.{EndsBlank}
 use Rattle.flash_pages.specs.Bank.{bank_bytes, start_of}
 use Rattle.flash_pages.specs.Bytes.{DiffersIn, IsErased, patch}
-use Rattle.flash_pages.specs.Flash.{Changes, FlashState, IsFlash, MayLeaveOnly, Reads, Throughout, Touches, card_blocks}
+use Rattle.flash_pages.specs.Flash.{Changes, FlashState, IsFlash, MayLeaveOnly, Reads, Throughout}
+use Rattle.flash_pages.specs.Flash.{Touches, card_blocks}
 use Rattle.flash_pages.specs.Rows.{HasRows}
 use Rattle.flash_pages.specs.Switch.{IsNextByte, SwitchesTo, live_of}
 use Rattle.flash_pages.proofs.Patches.{DiffersIn-patch, part-DiffersIn, part-patch, part_outside}
 use Rattle.flash_pages.proofs.SwitchByte.{next_erased, one_next_byte, opened_in, switches_in}
-use Rattle.flash_pages.proofs.Throughout.{MayLeaveOnly-settled, Throughout-begin, Throughout-change, Throughout-read, Throughout-touch}
+use Rattle.flash_pages.proofs.Throughout.{MayLeaveOnly-settled, Throughout-begin, Throughout-change}
+use Rattle.flash_pages.proofs.Throughout.{Throughout-read, Throughout-touch}
 use Rattle.flash_pages.proofs.Touched.{at_some, flash_size, from_each, known_before, same_some}
 use Rattle.record_codec.specs.IsDurable.{IsDurable}
 use Rattle.record_codec.specs.Spelling.{spelling}

@@ -1,5 +1,7 @@
 -- What a switch and the calls around it leave of an image.
-use Rattle.std.proofs.Common.{◌≡◌, inl, inr, ℕ, ◌+◌, ◌-◌, ◌<◌, ◌≤◌, List, [], ◌∷◌, ◌++◌, length, Option, Some, None, IsSome, IfSome, Result, refl, sym, ◌∙◌, ap, subst, arith}
+use Rattle.std.proofs.Common.{◌≡◌, inl, inr, ℕ, ◌+◌, ◌-◌, ◌<◌, ◌≤◌, List, [], ◌∷◌, ◌++◌, length}
+use Rattle.std.proofs.Common.{Option, Some, None, IsSome, IfSome, Result, refl, sym, ◌∙◌, ap, subst}
+use Rattle.std.proofs.Common.{arith}
 use Rattle.std.specs.Prelude.{⊤}
 use Rattle.flash_pages.specs.Append.{AppendsRow, EndsBlank}
 use Rattle.flash_pages.specs.Bank.{bank_bytes, end_of, start_of}
@@ -10,7 +12,8 @@ use Rattle.flash_pages.specs.Switch.{IsNextByte}
 use Rattle.flash_pages.proofs.BlankBehind.{bank-append}
 use Rattle.flash_pages.proofs.Patches.{part_outside}
 use Rattle.flash_pages.proofs.SwitchByte.{one_next_byte}
-use Rattle.flash_pages.proofs.Touched.{at_some, flash_size, from_each, known, known_after, same_some}
+use Rattle.flash_pages.proofs.Touched.{at_some, flash_size, from_each, known, known_after}
+use Rattle.flash_pages.proofs.Touched.{same_some}
 use Rattle.record_codec.specs.declared.durable.Durable.{Durable}
 use Rattle.card_journal.specs.CardStoreState.{CameBack}
 use Rattle.card_journal.specs.Image.{bank_of, switch_row}

@@ -31,7 +31,8 @@ abbrev pub KeepsHeld : (List ℕ → Durable → Type 0) → CardStoreState → 
 KeepsHeld holds store = MayLeaveOnly store.flash (HoldsOneOf holds store.held store.unrepaired)
 
 -- A commit of a record: each image since it began holds what was held, or that after the record
--- that was unrepaired, or after this one. From its end on the flash keeps what the store then holds.
+-- that was unrepaired, or after this one. From its end on the flash keeps what the store then
+-- holds.
 pub record IsAtomic (holds : List ℕ → Durable → Type 0) (old new : CardStoreState) (entry : Record)
     : Type 0 where
   pub images : LeavesOnly old.flash new.flash

@@ -1,5 +1,6 @@
 -- A new card on a blank flash.
-use Rattle.std.specs.Prelude.{ℕ, ◌≢◌, ◌⊎◌, ◌*◌, ◌-◌, ◌≤◌, ◌<◌, List, [], slice_index, Option, Some, None}
+use Rattle.std.specs.Prelude.{ℕ, ◌≢◌, ◌⊎◌, ◌*◌, ◌-◌, ◌≤◌, ◌<◌, List, [], slice_index, Option, Some}
+use Rattle.std.specs.Prelude.{None}
 use Rattle.card_journal.specs.Image.{HoldsCard}
 use Rattle.flash_pages.specs.Bytes.{IsErased}
 use Rattle.flash_pages.specs.Flash.{block_len, card_blocks}

@@ -63,8 +63,8 @@ IsWorn flash = IfSome flash.bytes (λ image. IsNextByte (switch_row image) None)
 abbrev pub HasNextByte : FlashState → Type 0
 HasNextByte flash = IfSome flash.bytes (λ image. ¬ IsNextByte (switch_row image) None)
 
--- A store that wasn't opened since the switch row is used up: it needed a switch, since no card ends
--- clean in the live bank, and the flash was only read.
+-- A store that wasn't opened since the switch row is used up: it needed a switch, since no card
+-- ends clean in the live bank, and the flash was only read.
 pub record IsNotOpenedWorn (old new : FlashState) : Type 0 where
   pub needed : IfSome old.bytes EndsTorn
   pub worn : IsWorn old

@@ -1,7 +1,8 @@
 ghost use Rattle.std.specs.Prelude.{◌≡◌, ◌⊎◌, ◌↔◌, ℕ, List, None, Some, IfErr, IfOk, IfSome};
 ghost use Rattle.std.specs.Prelude.{IsErrOf, IsSome, IsTrue, OnErr, OnOk};
 ghost use Rattle.card_journal.specs.CardStoreState.{CameBack, CardStoreState, HoldsOneOf, IsAtomic};
-ghost use Rattle.card_journal.specs.CardStoreState.{IsHeldWith, KeepsHeld, IsRefusedUsedUp, OpensUsedUp};
+ghost use Rattle.card_journal.specs.CardStoreState.{IsHeldWith, KeepsHeld, IsRefusedUsedUp};
+ghost use Rattle.card_journal.specs.CardStoreState.{OpensUsedUp};
 ghost use Rattle.card_journal.specs.CommitFault.{IsCauseOf};
 ghost use Rattle.card_journal.specs.Held.{PutsProfile};
 ghost use Rattle.card_journal.specs.OpenFault.{HasRisen};

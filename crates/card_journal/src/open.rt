@@ -1,5 +1,6 @@
 // What a flash holds, read when a store is opened.
-ghost use Rattle.std.specs.Prelude.{◌≡◌, ◌↔◌, ◌<◌, ◌⊎◌, ℕ, IfOk, IfSome, IsErrOf, IsSome, IsTrue, OnOk};
+ghost use Rattle.std.specs.Prelude.{◌≡◌, ◌↔◌, ◌<◌, ◌⊎◌, ℕ, IfOk, IfSome, IsErrOf, IsSome, IsTrue};
+ghost use Rattle.std.specs.Prelude.{OnOk};
 ghost use Rattle.port_io.specs.Faults.{OnlyWhereRose};
 ghost use Rattle.card_journal.specs.CardStoreState.{CameBack};
 ghost use Rattle.card_journal.specs.Image.{HoldsCard, bank_of};

@@ -1,5 +1,6 @@
 ghost use Rattle.std.specs.Prelude.{◌≡◌, ◌≢◌, ◌≤◌, ◌+◌, ◌⊎◌, ◌↔◌, ⊤, ℕ, None, Some, length};
-ghost use Rattle.std.specs.Prelude.{IfErr, IfOk, IfSome, IsErrOf, IsOk, IsSome, IsTrue, OnErr, OnOk};
+ghost use Rattle.std.specs.Prelude.{IfErr, IfOk, IfSome, IsErrOf, IsOk, IsSome, IsTrue, OnErr};
+ghost use Rattle.std.specs.Prelude.{OnOk};
 ghost use Rattle.port_io.specs.Faults.{FailsOnlyWhereRose, OnlyWhereRose};
 ghost use Rattle.card_journal.specs.CardStoreState.{CameBack};
 ghost use Rattle.card_journal.specs.CommitFault.{IsCauseOf};
@@ -10,9 +11,11 @@ ghost use Rattle.card_journal.specs.MakeFault.{IsRefused};
 ghost use Rattle.card_journal.specs.OpenFault.{HasRisen};
 ghost use Rattle.card_journal.specs.Read.{OnlyReads};
 ghost use Rattle.card_journal.specs.Store.{store_of};
-ghost use Rattle.card_journal.specs.StoreState.{Commits, HasNextByte, IsNotOpenedWorn, IsRefusedWorn, IsUsable};
+ghost use Rattle.card_journal.specs.StoreState.{Commits, HasNextByte, IsNotOpenedWorn};
+ghost use Rattle.card_journal.specs.StoreState.{IsRefusedWorn, IsUsable};
 ghost use Rattle.card_journal.specs.StoreState.{IsUsedUp, IsWorn, OpensTorn};
-ghost use Rattle.card_journal.specs.StoreState.{KeepsCard, MayCommit, NeedsSwitch, Reopens, RowHasRoom};
+ghost use Rattle.card_journal.specs.StoreState.{KeepsCard, MayCommit, NeedsSwitch, Reopens};
+ghost use Rattle.card_journal.specs.StoreState.{RowHasRoom};
 ghost use Rattle.card_journal.specs.Stored.{EndsClean, EndsTorn, HoldsWith};
 ghost use Rattle.card_journal.specs.Switched.{FromTo, IsSwitched, KeepsSwitchRow, bodies_with};
 ghost use Rattle.card_journal.specs.Switched.{copy_bodies};
@@ -156,11 +159,11 @@ impl<F: Flash> BankStore<F> {
         }
     }
 
-    /// Power on again, and opens the card that the flash then holds, as `open_store` does. A refusal
-    /// leaves what is held as it was, and from then on only `restart` and `close` may be called.
-    /// At each moment the flash holds what was held, or that after the record that was unrepaired,
-    /// and so it is one of these that is opened. It is never answered that the flash holds no card
-    /// where the flash tells what it holds.
+    /// Power on again, and opens the card that the flash then holds, as `open_store` does. A
+    /// refusal leaves what is held as it was, and from then on only `restart` and `close` may be
+    /// called. At each moment the flash holds what was held, or that after the record that was
+    /// unrepaired, and so it is one of these that is opened. It is never answered that the flash
+    /// holds no card where the flash tells what it holds.
     pub fn restart(&mut self) -> Result<(), OpenFault>
         ensures usable { OnOk result (IsUsable (store_of F.state self.new)) }
         ensures repaired { OnOk result (self.new.unrepaired ≡ None) }

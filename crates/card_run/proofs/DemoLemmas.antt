@@ -1,6 +1,9 @@
-use Rattle.std.proofs.Common.{◌≡◌, ℕ, zero, suc, ◌+◌, ◌<◌, ◌≤◌, List, [], ◌∷◌, ◌++◌, map, length, take, drop, get_or, Option, Some, refl, sym, ◌∙◌, ap, subst, arith, append_assoc, add-zero, length-append}
+use Rattle.std.proofs.Common.{◌≡◌, ℕ, zero, suc, ◌+◌, ◌<◌, ◌≤◌, List, [], ◌∷◌, ◌++◌, map, length}
+use Rattle.std.proofs.Common.{take, drop, get_or, Option, Some, refl, sym, ◌∙◌, ap, subst, arith}
+use Rattle.std.proofs.Common.{append_assoc, add-zero, length-append}
 use Rattle.std.proofs.KnownBytes.{Appends-nil, Appends-trans}
-use Rattle.std.proofs.lemmas.List.{append-nil, length-map, map-append, take-append-drop, take-append-le, take_all, take_more}
+use Rattle.std.proofs.lemmas.List.{append-nil, length-map, map-append, take-append-drop}
+use Rattle.std.proofs.lemmas.List.{take-append-le, take_all, take_more}
 use Rattle.std.proofs.lemmas.List.Concat.{flat_map-append}
 use Rattle.std.proofs.lemmas.Option.{get_or_from_slice_get}
 use Rattle.std.specs.Io.KnownBytes.{Appends}
@@ -19,7 +22,8 @@ use Rattle.script_text.specs.Item.Item.{Stated}
 use Rattle.script_text.specs.Ports.{statements_of}
 use Rattle.script_text.specs.Script.{script_of, statement_in}
 use Rattle.script_text.proofs.FactLemmas.{statements_of-script_of}
-use Rattle.card_run.specs.Demo.{IsRun, WritesPrefix, answer_entry, answer_log, command_of, demo_text}
+use Rattle.card_run.specs.Demo.{IsRun, WritesPrefix, answer_entry, answer_log, command_of}
+use Rattle.card_run.specs.Demo.{demo_text}
 
 -- the commands of statements
 abbrev pub commands_of : List Statement → List (List ℕ)

@@ -1,5 +1,7 @@
 -- What is written of a file is read again as it was.
-use Rattle.std.proofs.Common.{◌≡◌, ℕ, ◌+◌, ◌*◌, ◌/◌, ◌%◌, ◌^◌, ◌<◌, ◌≤◌, Bool, true, false, not, cond, eqb, List, [], ◌∷◌, ◌++◌, length, map, take, Option, Some, None, refl, sym, ap, subst, arith, rules, append-nil, length-append}
+use Rattle.std.proofs.Common.{◌≡◌, ℕ, ◌+◌, ◌*◌, ◌/◌, ◌%◌, ◌^◌, ◌<◌, ◌≤◌, Bool, true, false, not}
+use Rattle.std.proofs.Common.{cond, eqb, List, [], ◌∷◌, ◌++◌, length, map, take, Option, Some, None}
+use Rattle.std.proofs.Common.{refl, sym, ap, subst, arith, rules, append-nil, length-append}
 use Rattle.std.specs.Prelude.{is_some, IfSome, option_map}
 use Rattle.std.specs.List.{AllByRecursion, filter_map, cons_option}
 use Rattle.std.specs.Int.{w16, to_be_bytes}
@@ -13,7 +15,8 @@ use Rattle.ber_tlv.proofs.Walking.{lead_with_spelled}
 use Rattle.file_rows.specs.FileHead.{holds_files}
 use Rattle.file_rows.specs.declared.head.FileHead.{FileHead}
 use Rattle.file_rows.specs.declared.head.Kind.{Kind}
-use Rattle.file_rows.specs.declared.head.Kind.TheVariants.{Master, Directory, Application, Transparent, Linear, Cyclic}
+use Rattle.file_rows.specs.declared.head.Kind.TheVariants.{Master, Directory, Application}
+use Rattle.file_rows.specs.declared.head.Kind.TheVariants.{Transparent, Linear, Cyclic}
 use Rattle.file_rows.specs.declared.head.Life.{Life}
 use Rattle.file_rows.specs.declared.head.Life.TheVariants.{Active, Deactivated, Terminated}
 use Rattle.file_rows.specs.declared.head.Rule.{Rule}
@@ -23,13 +26,17 @@ use Rattle.fcp_codec.specs.declared.fcp.RuleRef.{RuleRef}
 use Rattle.fcp_codec.specs.declared.fcp.RuleRef.TheVariants.{Whole}
 use Rattle.fcp_codec.specs.declared.pin_status.PinStatus.{PinStatus}
 use Rattle.fcp_codec.specs.declared.pin_status.TheConstants.{KEYS}
-use Rattle.fcp_codec.specs.declared.tags.TheConstants.{SIZE, DESCRIPTOR, IDENTIFIER, NAME, SFI, LIFE, RULE, PROPRIETARY, PIN_STATUS, ENABLED}
+use Rattle.fcp_codec.specs.declared.tags.TheConstants.{SIZE, DESCRIPTOR, IDENTIFIER, NAME, SFI}
+use Rattle.fcp_codec.specs.declared.tags.TheConstants.{LIFE, RULE, PROPRIETARY, PIN_STATUS, ENABLED}
 use Rattle.fcp_codec.specs.FileForm.{form_of}
 use Rattle.fcp_codec.specs.Values.{id_of, size_of, sfi_of, life_of}
 use Rattle.fcp_codec.specs.RuleRef.{rule_of}
-use Rattle.fcp_codec.specs.PinStatus.{status_of, statuses_of, status_objects, template_of, key_object, status_bytes}
+use Rattle.fcp_codec.specs.PinStatus.{status_of, statuses_of, status_objects, template_of}
+use Rattle.fcp_codec.specs.PinStatus.{key_object, status_bytes}
 use Rattle.file_rows.specs.Path.{own_id}
-use Rattle.fcp_codec.specs.Writing.{descriptor_for, life_byte, name_objects, proprietary_objects, rule_objects, last_objects, objects_for, fcp_for, name_for, size_for, sfi_for, FitsFields}
+use Rattle.fcp_codec.specs.Writing.{descriptor_for, life_byte, name_objects, proprietary_objects}
+use Rattle.fcp_codec.specs.Writing.{rule_objects, last_objects, objects_for, fcp_for, name_for}
+use Rattle.fcp_codec.specs.Writing.{size_for, sfi_for, FitsFields}
 use Rattle.fcp_codec.specs.Reading.{NoneIsBad, fcp_of, ReadsAsFcp}
 
 -- two bytes say the number

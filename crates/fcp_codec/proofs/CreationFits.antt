@@ -1,5 +1,7 @@
 -- A new file's head fits just where the parameters make it.
-use Rattle.std.proofs.Common.{◌≡◌, ◌≢◌, ◌⊎◌, ℕ, ◌+◌, ◌≤◌, Bool, true, false, not, cond, ◌&&◌, ◌==◌, List, [], ◌∷◌, ◌++◌, length, find, refl, sym, ◌∙◌, ap, subst, inl, inr, ⊎_elim, Option, Some, None, Ok, Err, arith}
+use Rattle.std.proofs.Common.{◌≡◌, ◌≢◌, ◌⊎◌, ℕ, ◌+◌, ◌≤◌, Bool, true, false, not, cond, ◌&&◌, ◌==◌}
+use Rattle.std.proofs.Common.{List, [], ◌∷◌, ◌++◌, length, find, refl, sym, ◌∙◌, ap, subst, inl}
+use Rattle.std.proofs.Common.{inr, ⊎_elim, Option, Some, None, Ok, Err, arith}
 use Rattle.std.specs.Prelude.{nat_le, is_some, unwrap_or}
 use Rattle.std.specs.Bool.{IsTrue}
 use Rattle.std.specs.List.{AllByRecursion}
@@ -12,28 +14,37 @@ use Rattle.file_rows.specs.Apart.{AreFilesApart}
 use Rattle.file_rows.specs.Change.{Fits}
 use Rattle.file_rows.specs.Conditions.{IsNewFile}
 use Rattle.file_rows.specs.Content.{AreFiles, IsValid, file_at, use_of}
-use Rattle.file_rows.specs.FileHead.{HasForm, Holds, IsFile, ShareName, ShareSfi, holds_files, is_application}
+use Rattle.file_rows.specs.FileHead.{HasForm, Holds, IsFile, ShareName, ShareSfi, holds_files}
+use Rattle.file_rows.specs.FileHead.{is_application}
 use Rattle.file_rows.specs.Path.{IsIn, is_in, same_path}
 use Rattle.file_rows.specs.declared.change.Change.TheVariants.{FileAdd}
 use Rattle.file_rows.specs.declared.content.Content.{Content}
 use Rattle.file_rows.specs.declared.head.FileHead.{FileHead}
 use Rattle.file_rows.specs.declared.head.Kind.{Kind}
-use Rattle.file_rows.specs.declared.head.Kind.TheVariants.{Master, Directory as DirectoryKind, Application, Transparent as TransparentKind, Linear as LinearKind, Cyclic as CyclicKind}
+use Rattle.file_rows.specs.declared.head.Kind.TheVariants.{Master, Directory as DirectoryKind}
+use Rattle.file_rows.specs.declared.head.Kind.TheVariants.{Application}
+use Rattle.file_rows.specs.declared.head.Kind.TheVariants.{Transparent as TransparentKind}
+use Rattle.file_rows.specs.declared.head.Kind.TheVariants.{Linear as LinearKind}
+use Rattle.file_rows.specs.declared.head.Kind.TheVariants.{Cyclic as CyclicKind}
 use Rattle.file_rows.specs.declared.row.FileRow.{FileRow}
 use Rattle.file_rows.proofs.ConditionLemmas.{fits_where}
 use Rattle.file_rows.proofs.EachLemmas.{each_both, each_of_map, each_weaker}
 use Rattle.file_rows.proofs.FormLemmas.{directory_is}
 use Rattle.file_rows.proofs.ListLemmas.{any_none, any_weaker}
 use Rattle.file_rows.proofs.PathLemmas.{is_in-is}
-use Rattle.fcp_codec.specs.Creation.{HoldsFilesAt, created, created_as, described_by, ef_sfi, head_told, in_use, is_good, is_id_reserved, is_name_of, is_sfi_of, is_size_of, kind_for, sfi_meant}
+use Rattle.fcp_codec.specs.Creation.{HoldsFilesAt, created, created_as, described_by, ef_sfi}
+use Rattle.fcp_codec.specs.Creation.{head_told, in_use, is_good, is_id_reserved, is_name_of}
+use Rattle.fcp_codec.specs.Creation.{is_sfi_of, is_size_of, kind_for, sfi_meant}
 use Rattle.fcp_codec.specs.declared.creation.CreationFault.{CreationFault}
 use Rattle.fcp_codec.specs.declared.creation.CreationFault.TheVariants.{BadParameters}
 use Rattle.fcp_codec.specs.declared.creation.Described.{Described}
 use Rattle.fcp_codec.specs.declared.creation.InUse.{InUse}
 use Rattle.fcp_codec.specs.declared.fcp.Fcp.{Fcp}
 use Rattle.fcp_codec.specs.declared.fcp.FileForm.{FileForm}
-use Rattle.fcp_codec.specs.declared.fcp.FileForm.TheVariants.{Directory, Transparent, Linear, Cyclic}
-use Rattle.fcp_codec.proofs.CreationLemmas.{described_id, form_is, found_passes, made_is, none_passes, refused_is, sfi_is, two_hold, le_of}
+use Rattle.fcp_codec.specs.declared.fcp.FileForm.TheVariants.{Directory, Transparent, Linear}
+use Rattle.fcp_codec.specs.declared.fcp.FileForm.TheVariants.{Cyclic}
+use Rattle.fcp_codec.proofs.CreationLemmas.{described_id, form_is, found_passes, made_is}
+use Rattle.fcp_codec.proofs.CreationLemmas.{none_passes, refused_is, sfi_is, two_hold, le_of}
 
 not_master : (form : FileForm) (named : Bool) → kind_for form named ≢ Master
 not_master Directory true e = cc

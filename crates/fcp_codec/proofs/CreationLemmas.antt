@@ -1,6 +1,8 @@
 -- A head that is made of parameters is that of a file that may be added, and one that is refused
 -- for what is in use isn't.
-use Rattle.std.proofs.Common.{◌≡◌, ◌≢◌, ◌⊎◌, ℕ, ◌*◌, ◌/◌, ◌%◌, ◌≤◌, Bool, true, false, not, cond, ◌&&◌, ◌||◌, ◌==◌, List, [], ◌∷◌, ◌++◌, length, find, refl, sym, ap, inl, inr, Option, Some, None, Result, Ok, Err, arith}
+use Rattle.std.proofs.Common.{◌≡◌, ◌≢◌, ◌⊎◌, ℕ, ◌*◌, ◌/◌, ◌%◌, ◌≤◌, Bool, true, false, not, cond}
+use Rattle.std.proofs.Common.{◌&&◌, ◌||◌, ◌==◌, List, [], ◌∷◌, ◌++◌, length, find, refl, sym, ap}
+use Rattle.std.proofs.Common.{inl, inr, Option, Some, None, Result, Ok, Err, arith}
 use Rattle.std.specs.Prelude.{nat_le, is_none, is_some, option_and_then, option_map, unwrap_or}
 use Rattle.std.specs.List.{AllByRecursion}
 use Rattle.std.proofs.lemmas.Bool.{true≢false}
@@ -12,13 +14,17 @@ use Rattle.file_rows.specs.declared.head.Life.{Life}
 use Rattle.file_rows.specs.declared.head.Rule.{Rule}
 use Rattle.file_rows.proofs.FormLemmas.{records_of}
 use Rattle.fcp_codec.specs.FileForm.{form_of}
-use Rattle.fcp_codec.specs.Creation.{are_records, described_by, fault_unless, size_told, is_directory, is_ef_sfi, sfi_in_id, is_name_of, is_size_of, kind_for, made_unless, record_len_for}
+use Rattle.fcp_codec.specs.Creation.{are_records, described_by, fault_unless, size_told}
+use Rattle.fcp_codec.specs.Creation.{is_directory, is_ef_sfi, sfi_in_id, is_name_of, is_size_of}
+use Rattle.fcp_codec.specs.Creation.{kind_for, made_unless, record_len_for}
 use Rattle.fcp_codec.specs.declared.creation.CreationFault.{CreationFault}
-use Rattle.fcp_codec.specs.declared.creation.CreationFault.TheVariants.{BadParameters, IdInUse, NameInUse, QuotaExceeded}
+use Rattle.fcp_codec.specs.declared.creation.CreationFault.TheVariants.{BadParameters, IdInUse}
+use Rattle.fcp_codec.specs.declared.creation.CreationFault.TheVariants.{NameInUse, QuotaExceeded}
 use Rattle.fcp_codec.specs.declared.creation.Described.{Described}
 use Rattle.fcp_codec.specs.declared.fcp.Fcp.{Fcp}
 use Rattle.fcp_codec.specs.declared.fcp.FileForm.{FileForm}
-use Rattle.fcp_codec.specs.declared.fcp.FileForm.TheVariants.{Directory, Transparent, Linear, Cyclic}
+use Rattle.fcp_codec.specs.declared.fcp.FileForm.TheVariants.{Directory, Transparent, Linear}
+use Rattle.fcp_codec.specs.declared.fcp.FileForm.TheVariants.{Cyclic}
 
 pub two_hold : (a b : Bool) → (a && b) ≡ true → (a ≡ true) × (b ≡ true)
 two_hold true b e = (refl, e)

@@ -1,12 +1,14 @@
 -- The fields that are read of a value are those that stand in it.
-use Rattle.std.proofs.Common.{◌≡◌, ℕ, Bool, true, false, cond, not, ◌&&◌, List, [], ◌∷◌, ◌++◌, refl, sym, ap, Option, Some, None, Err, Ok}
+use Rattle.std.proofs.Common.{◌≡◌, ℕ, Bool, true, false, cond, not, ◌&&◌, List, [], ◌∷◌, ◌++◌, refl}
+use Rattle.std.proofs.Common.{sym, ap, Option, Some, None, Err, Ok}
 use Rattle.std.proofs.lemmas.Bool.{true≢false}
 use Rattle.std.specs.Option.{option_and_then}
 use Rattle.std.specs.Prelude.{Result}
 use Rattle.ber_tlv.proofs.ObjectLemmas.{objects_fill, objects_filled, of_some}
 use Rattle.ber_tlv.specs.Objects.{objects_of}
 use Rattle.ber_tlv.specs.Walk.{LeadWith, Object}
-use Rattle.fcp_codec.specs.Reading.{NoneIsBad, ReadsAsFcp, ReadsFcp, are_good, fcp_if_good, fcp_of, fields_in, is_bad}
+use Rattle.fcp_codec.specs.Reading.{NoneIsBad, ReadsAsFcp, ReadsFcp, are_good, fcp_if_good, fcp_of}
+use Rattle.fcp_codec.specs.Reading.{fields_in, is_bad}
 use Rattle.fcp_codec.specs.declared.fault.FcpFault.{FcpFault}
 use Rattle.fcp_codec.specs.declared.fcp.Fcp.{Fcp}
 

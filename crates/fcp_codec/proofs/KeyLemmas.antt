@@ -1,5 +1,8 @@
 -- The keys in the list of PINs of a directory.
-use Rattle.std.proofs.Common.{◌≡◌, ◌⊎◌, ◌↔◌, ℕ, zero, suc, ◌+◌, ◌<◌, ◌≤◌, Bool, true, false, cond, ◌&&◌, ◌==◌, ltb, List, [], ◌∷◌, ◌++◌, map, filter, find, is_some, Contains, refl, sym, ◌∙◌, ap, subst, Option, Some, None, inl, inr, ⊎_elim, lit≤, arith}
+use Rattle.std.proofs.Common.{◌≡◌, ◌⊎◌, ◌↔◌, ℕ, zero, suc, ◌+◌, ◌<◌, ◌≤◌, Bool, true, false, cond}
+use Rattle.std.proofs.Common.{◌&&◌, ◌==◌, ltb, List, [], ◌∷◌, ◌++◌, map, filter, find, is_some}
+use Rattle.std.proofs.Common.{Contains, refl, sym, ◌∙◌, ap, subst, Option, Some, None, inl, inr}
+use Rattle.std.proofs.Common.{⊎_elim, lit≤, arith}
 use Rattle.std.proofs.lemmas.Bool.{false≢true, true≢false}
 use Rattle.std.proofs.lemmas.Bool.Decides.{Decides-eqb, Decides-ltb}
 use Rattle.std.specs.Bool.{IsTrue}
@@ -8,7 +11,9 @@ use Rattle.std.specs.Option.{option_map}
 use Rattle.plain_lists.specs.EachTwo.{EachTwo}
 use Rattle.file_rows.specs.PinRow.{IsGlobalKey, IsLocalKey}
 use Rattle.file_rows.specs.declared.pin.PinRow.{PinRow}
-use Rattle.file_rows.proofs.ListLemmas.{any_cases, any_first, any_later, any_none, contains-filter, contains_cases, contains_later, contains_same, filter-contains, two_filter}
+use Rattle.file_rows.proofs.ListLemmas.{any_cases, any_first, any_later, any_none, contains-filter}
+use Rattle.file_rows.proofs.ListLemmas.{contains_cases, contains_later, contains_same}
+use Rattle.file_rows.proofs.ListLemmas.{filter-contains, two_filter}
 use Rattle.file_rows.proofs.PathLemmas.{both_hold}
 use Rattle.fcp_codec.specs.PinStatus.{counts_in, keys_of, status_of}
 use Rattle.fcp_codec.specs.declared.pin_status.PinStatus.{PinStatus}

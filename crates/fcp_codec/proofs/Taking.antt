@@ -1,5 +1,7 @@
 -- One object more is taken or is bad, whichever field it is.
-use Rattle.std.proofs.Common.{◌≡◌, ◌⊎◌, ℕ, Bool, true, false, ◌&&◌, ◌||◌, not, cond, eqb, List, [], ◌∷◌, ◌++◌, Option, Some, None, Result, Ok, Err, refl, sym, ◌∙◌, ap, subst, ⊎_elim, inl, inr, arith}
+use Rattle.std.proofs.Common.{◌≡◌, ◌⊎◌, ℕ, Bool, true, false, ◌&&◌, ◌||◌, not, cond, eqb, List, []}
+use Rattle.std.proofs.Common.{◌∷◌, ◌++◌, Option, Some, None, Result, Ok, Err, refl, sym, ◌∙◌, ap}
+use Rattle.std.proofs.Common.{subst, ⊎_elim, inl, inr, arith}
 use Rattle.std.specs.Prelude.{is_some, IsSome, IsNone, MatchResult, option_and_then}
 use Rattle.std.proofs.lemmas.Bool.Decides.{nat_tests}
 use Rattle.ber_tlv.specs.Walk.{Object}
@@ -9,10 +11,12 @@ use Rattle.fcp_codec.specs.declared.fault.FcpFault.TheVariants.{BadField}
 use Rattle.fcp_codec.specs.declared.fcp.FileForm.{FileForm}
 use Rattle.fcp_codec.specs.declared.fcp.RuleRef.{RuleRef}
 use Rattle.fcp_codec.specs.declared.read.Fields.{Fields}
-use Rattle.fcp_codec.specs.declared.tags.TheConstants.{SIZE, DESCRIPTOR, IDENTIFIER, NAME, SFI, LIFE, RULE, PROPRIETARY, PIN_STATUS}
+use Rattle.fcp_codec.specs.declared.tags.TheConstants.{SIZE, DESCRIPTOR, IDENTIFIER, NAME, SFI}
+use Rattle.fcp_codec.specs.declared.tags.TheConstants.{LIFE, RULE, PROPRIETARY, PIN_STATUS}
 use Rattle.fcp_codec.specs.FileForm.{form_of}
 use Rattle.fcp_codec.specs.RuleRef.{rule_of}
-use Rattle.fcp_codec.specs.Values.{descriptor_of, id_of, size_of, sfi_of, name_of, life_of, is_well_formed}
+use Rattle.fcp_codec.specs.Values.{descriptor_of, id_of, size_of, sfi_of, name_of, life_of}
+use Rattle.fcp_codec.specs.Values.{is_well_formed}
 use Rattle.fcp_codec.specs.Reading.{field, is_field, is_bad}
 use Rattle.fcp_codec.specs.State.{Keeps, Keep, TakesOneMore}
 

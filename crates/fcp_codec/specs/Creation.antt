@@ -1,23 +1,31 @@
 -- What file control parameters make of a new file (ETSI TS 102 222, CREATE FILE).
-use Rattle.std.specs.Prelude.{ℕ, ◌≡◌, Any, IsTrue, ◌+◌, ◌/◌, ◌%◌, Bool, true, false, not, ◌==◌, ◌&&◌, ◌||◌, nat_le, if◌then◌else◌, List, [], ◌∷◌, ◌++◌, length, Option, Some, None, is_none, is_some, option_and_then, option_map, unwrap_or, Result, Ok, Err}
+use Rattle.std.specs.Prelude.{ℕ, ◌≡◌, Any, IsTrue, ◌+◌, ◌/◌, ◌%◌, Bool, true, false, not, ◌==◌}
+use Rattle.std.specs.Prelude.{◌&&◌, ◌||◌, nat_le, if◌then◌else◌, List, [], ◌∷◌, ◌++◌, length}
+use Rattle.std.specs.Prelude.{Option, Some, None, is_none, is_some, option_and_then, option_map}
+use Rattle.std.specs.Prelude.{unwrap_or, Result, Ok, Err}
 use Rattle.file_rows.specs.Content.{use_of}
 use Rattle.file_rows.specs.FileHead.{holds_files}
 use Rattle.file_rows.specs.Find.{is_id_used, is_name_used, is_sfi_used}
 use Rattle.file_rows.specs.declared.head.FileHead.{FileHead}
 use Rattle.file_rows.specs.declared.head.Kind.{Kind}
-use Rattle.file_rows.specs.declared.head.Kind.TheVariants.{Directory as DirectoryKind, Application, Transparent as TransparentKind, Linear as LinearKind, Cyclic as CyclicKind}
+use Rattle.file_rows.specs.declared.head.Kind.TheVariants.{Directory as DirectoryKind, Application}
+use Rattle.file_rows.specs.declared.head.Kind.TheVariants.{Transparent as TransparentKind}
+use Rattle.file_rows.specs.declared.head.Kind.TheVariants.{Linear as LinearKind}
+use Rattle.file_rows.specs.declared.head.Kind.TheVariants.{Cyclic as CyclicKind}
 use Rattle.file_rows.specs.declared.head.Life.TheVariants.{Active}
 use Rattle.file_rows.specs.declared.row.FileRow.{FileRow}
 use Rattle.plain_lists.specs.FirstOf.{first_of}
 use Rattle.fcp_codec.specs.FileForm.{form_of}
 use Rattle.fcp_codec.specs.RuleRef.{rule_at}
 use Rattle.fcp_codec.specs.declared.creation.CreationFault.{CreationFault}
-use Rattle.fcp_codec.specs.declared.creation.CreationFault.TheVariants.{BadParameters, IdInUse, NameInUse, QuotaExceeded}
+use Rattle.fcp_codec.specs.declared.creation.CreationFault.TheVariants.{BadParameters, IdInUse}
+use Rattle.fcp_codec.specs.declared.creation.CreationFault.TheVariants.{NameInUse, QuotaExceeded}
 use Rattle.fcp_codec.specs.declared.creation.Described.{Described}
 use Rattle.fcp_codec.specs.declared.creation.InUse.{InUse}
 use Rattle.fcp_codec.specs.declared.fcp.Fcp.{Fcp}
 use Rattle.fcp_codec.specs.declared.fcp.FileForm.{FileForm}
-use Rattle.fcp_codec.specs.declared.fcp.FileForm.TheVariants.{Directory, Transparent, Linear, Cyclic}
+use Rattle.fcp_codec.specs.declared.fcp.FileForm.TheVariants.{Directory, Transparent, Linear}
+use Rattle.fcp_codec.specs.declared.fcp.FileForm.TheVariants.{Cyclic}
 
 abbrev pub is_directory : FileForm → Bool
 is_directory Directory = true

@@ -1,8 +1,10 @@
 -- The file descriptor of ETSI TS 102 221: a descriptor byte, a data coding byte, and for records
 -- their length.
-use Rattle.std.specs.Prelude.{ℕ, ◌+◌, ◌*◌, List, [], ◌∷◌, Option, Some, None, if◌then◌else◌, ◌==◌, ◌&&◌}
+use Rattle.std.specs.Prelude.{ℕ, ◌+◌, ◌*◌, List, [], ◌∷◌, Option, Some, None, if◌then◌else◌, ◌==◌}
+use Rattle.std.specs.Prelude.{◌&&◌}
 use Rattle.fcp_codec.specs.declared.fcp.FileForm.{FileForm}
-use Rattle.fcp_codec.specs.declared.fcp.FileForm.TheVariants.{Directory, Transparent, Linear, Cyclic}
+use Rattle.fcp_codec.specs.declared.fcp.FileForm.TheVariants.{Directory, Transparent, Linear}
+use Rattle.fcp_codec.specs.declared.fcp.FileForm.TheVariants.{Cyclic}
 
 -- a file without records
 abbrev pub plain_form : ℕ → ℕ → Option FileForm

@@ -1,5 +1,6 @@
 -- The PIN status template DO of ETSI TS 102 221: which PINs are enabled, and their key references.
-use Rattle.std.specs.Prelude.{ℕ, ◌+◌, ◌/◌, ◌^◌, Bool, List, [], ◌∷◌, length, map, take, find, Option, option_map, if◌then◌else◌, ◌==◌, ◌&&◌, ◌||◌}
+use Rattle.std.specs.Prelude.{ℕ, ◌+◌, ◌/◌, ◌^◌, Bool, List, [], ◌∷◌, length, map, take, find}
+use Rattle.std.specs.Prelude.{Option, option_map, if◌then◌else◌, ◌==◌, ◌&&◌, ◌||◌}
 use Rattle.std.specs.List.{filter_map}
 use Rattle.std.specs.Int.{w32, to_be_bytes, div_ceil}
 use Rattle.ber_tlv.specs.Walk.{Object, spelled}

@@ -1,5 +1,7 @@
 -- What is read from a list of fields.
-use Rattle.std.specs.Prelude.{◌≡◌, ◌≢◌, ◌⊎◌, ℕ, Bool, true, false, ◌&&◌, ◌||◌, not, List, [], ◌∷◌, ◌++◌, Option, Some, None, is_some, option_and_then, unwrap_or, if◌then◌else◌, ◌==◌, Result, Ok, Err, ⊤}
+use Rattle.std.specs.Prelude.{◌≡◌, ◌≢◌, ◌⊎◌, ℕ, Bool, true, false, ◌&&◌, ◌||◌, not, List, [], ◌∷◌}
+use Rattle.std.specs.Prelude.{◌++◌, Option, Some, None, is_some, option_and_then, unwrap_or}
+use Rattle.std.specs.Prelude.{if◌then◌else◌, ◌==◌, Result, Ok, Err, ⊤}
 use Rattle.std.specs.List.{list_any}
 use Rattle.ber_tlv.specs.Objects.{objects_of}
 use Rattle.ber_tlv.specs.Tlv.{BeginsWith, Refuses}
@@ -8,7 +10,8 @@ use Rattle.ber_tlv.specs.declared.fault.TlvFault.{TlvFault}
 use Rattle.fcp_codec.specs.declared.fault.FcpFault.{FcpFault}
 use Rattle.fcp_codec.specs.declared.fault.FcpFault.TheVariants.{BadField}
 use Rattle.fcp_codec.specs.declared.fcp.Fcp.{Fcp}
-use Rattle.fcp_codec.specs.declared.tags.TheConstants.{SIZE, DESCRIPTOR, IDENTIFIER, NAME, SFI, LIFE, RULE, PROPRIETARY, PIN_STATUS}
+use Rattle.fcp_codec.specs.declared.tags.TheConstants.{SIZE, DESCRIPTOR, IDENTIFIER, NAME, SFI}
+use Rattle.fcp_codec.specs.declared.tags.TheConstants.{LIFE, RULE, PROPRIETARY, PIN_STATUS}
 use Rattle.fcp_codec.specs.RuleRef.{rule_of}
 use Rattle.fcp_codec.specs.Values.{id_of, size_of, sfi_of, name_of, life_of, is_well_formed}
 

@@ -1,10 +1,12 @@
 -- What is kept while fields are read.
-use Rattle.std.specs.Prelude.{◌≡◌, ℕ, true, false, List, [], ◌∷◌, ◌++◌, Option, is_some, option_and_then, MatchResult, Result}
+use Rattle.std.specs.Prelude.{◌≡◌, ℕ, true, false, List, [], ◌∷◌, ◌++◌, Option, is_some}
+use Rattle.std.specs.Prelude.{option_and_then, MatchResult, Result}
 use Rattle.ber_tlv.specs.Walk.{Object}
 use Rattle.fcp_codec.specs.declared.fault.FcpFault.{FcpFault}
 use Rattle.fcp_codec.specs.declared.fault.FcpFault.TheVariants.{BadField}
 use Rattle.fcp_codec.specs.declared.read.Fields.{Fields}
-use Rattle.fcp_codec.specs.declared.tags.TheConstants.{SIZE, DESCRIPTOR, IDENTIFIER, NAME, SFI, LIFE, RULE, PROPRIETARY, PIN_STATUS}
+use Rattle.fcp_codec.specs.declared.tags.TheConstants.{SIZE, DESCRIPTOR, IDENTIFIER, NAME, SFI}
+use Rattle.fcp_codec.specs.declared.tags.TheConstants.{LIFE, RULE, PROPRIETARY, PIN_STATUS}
 use Rattle.fcp_codec.specs.RuleRef.{rule_of}
 use Rattle.fcp_codec.specs.Values.{descriptor_of, id_of, size_of, sfi_of, name_of, life_of}
 use Rattle.fcp_codec.specs.Reading.{field, is_bad}

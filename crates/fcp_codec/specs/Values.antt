@@ -1,10 +1,12 @@
 -- What the values of the fields say, where they are well formed (ETSI TS 102 221).
-use Rattle.std.specs.Prelude.{ℕ, ◌+◌, ◌*◌, ◌/◌, ◌%◌, Bool, true, List, [], ◌∷◌, take, Option, Some, None, is_some, if◌then◌else◌, ◌==◌, ◌&&◌, ◌||◌, nat_le}
+use Rattle.std.specs.Prelude.{ℕ, ◌+◌, ◌*◌, ◌/◌, ◌%◌, Bool, true, List, [], ◌∷◌, take, Option, Some}
+use Rattle.std.specs.Prelude.{None, is_some, if◌then◌else◌, ◌==◌, ◌&&◌, ◌||◌, nat_le}
 use Rattle.file_rows.specs.declared.head.Life.{Life}
 use Rattle.file_rows.specs.declared.head.Life.TheVariants.{Active, Deactivated, Terminated}
 use Rattle.fcp_codec.specs.FileForm.{form_of}
 use Rattle.fcp_codec.specs.RuleRef.{rule_of}
-use Rattle.fcp_codec.specs.declared.tags.TheConstants.{SIZE, DESCRIPTOR, IDENTIFIER, SFI, LIFE, RULE}
+use Rattle.fcp_codec.specs.declared.tags.TheConstants.{SIZE, DESCRIPTOR, IDENTIFIER, SFI, LIFE}
+use Rattle.fcp_codec.specs.declared.tags.TheConstants.{RULE}
 
 abbrev pub descriptor_of : List ℕ → Option (List ℕ)
 descriptor_of value = if is_some (form_of value) then Some value else None

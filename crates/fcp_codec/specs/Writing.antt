@@ -1,5 +1,6 @@
 -- A file's control parameters as a card writes them (ETSI TS 102 221).
-use Rattle.std.specs.Prelude.{ℕ, ◌*◌, ◌/◌, ◌^◌, ◌<◌, ◌≤◌, Bool, true, false, List, [], ◌∷◌, ◌++◌, Option, Some, None, option_map, IfSome, length, if◌then◌else◌, ◌==◌}
+use Rattle.std.specs.Prelude.{ℕ, ◌*◌, ◌/◌, ◌^◌, ◌<◌, ◌≤◌, Bool, true, false, List, [], ◌∷◌, ◌++◌}
+use Rattle.std.specs.Prelude.{Option, Some, None, option_map, IfSome, length, if◌then◌else◌, ◌==◌}
 use Rattle.std.specs.Int.{w16, to_be_bytes}
 use Rattle.ber_tlv.specs.Tlv.{shortest}
 use Rattle.ber_tlv.specs.Walk.{Object, spelled}
@@ -7,7 +8,8 @@ use Rattle.file_rows.specs.FileHead.{holds_files}
 use Rattle.file_rows.specs.Path.{own_id}
 use Rattle.file_rows.specs.declared.head.FileHead.{FileHead}
 use Rattle.file_rows.specs.declared.head.Kind.{Kind}
-use Rattle.file_rows.specs.declared.head.Kind.TheVariants.{Master, Directory, Application, Transparent, Linear, Cyclic}
+use Rattle.file_rows.specs.declared.head.Kind.TheVariants.{Master, Directory, Application}
+use Rattle.file_rows.specs.declared.head.Kind.TheVariants.{Transparent, Linear, Cyclic}
 use Rattle.file_rows.specs.declared.head.Life.{Life}
 use Rattle.file_rows.specs.declared.head.Life.TheVariants.{Active, Deactivated, Terminated}
 use Rattle.file_rows.specs.declared.head.Rule.{Rule}
@@ -15,7 +17,8 @@ use Rattle.file_rows.specs.declared.pin.PinRow.{PinRow}
 use Rattle.fcp_codec.specs.declared.fcp.Fcp.{Fcp}
 use Rattle.fcp_codec.specs.declared.fcp.RuleRef.TheVariants.{Whole}
 use Rattle.fcp_codec.specs.PinStatus.{statuses_of, status_objects}
-use Rattle.fcp_codec.specs.declared.tags.TheConstants.{TEMPLATE, SIZE, DESCRIPTOR, IDENTIFIER, NAME, SFI, LIFE, RULE, PROPRIETARY}
+use Rattle.fcp_codec.specs.declared.tags.TheConstants.{TEMPLATE, SIZE, DESCRIPTOR, IDENTIFIER, NAME}
+use Rattle.fcp_codec.specs.declared.tags.TheConstants.{SFI, LIFE, RULE, PROPRIETARY}
 
 -- a descriptor byte, a data coding byte, and for record files the length of a record and how many
 -- there are

@@ -1,6 +1,9 @@
 //! A new file by its control parameters.
-ghost use Rattle.std.specs.Prelude.{◌≡◌, ◌≤◌, ◌<◌, ◌+◌, ◌^◌, ◌∷◌, ◌++◌, length, nat_le, option_map, unwrap_or, [], IfSome};
-ghost use Rattle.fcp_codec.specs.Creation.{created_with, described_by, head_told, is_good, is_id_reserved, is_name_of, is_sfi_of, is_size_of, kind_for, record_len_for, sfi_told, are_records};
+ghost use Rattle.std.specs.Prelude.{◌≡◌, ◌≤◌, ◌<◌, ◌+◌, ◌^◌, ◌∷◌, ◌++◌, length, nat_le, option_map};
+ghost use Rattle.std.specs.Prelude.{unwrap_or, [], IfSome};
+ghost use Rattle.fcp_codec.specs.Creation.{created_with, described_by, head_told, is_good};
+ghost use Rattle.fcp_codec.specs.Creation.{is_id_reserved, is_name_of, is_sfi_of, is_size_of};
+ghost use Rattle.fcp_codec.specs.Creation.{kind_for, record_len_for, sfi_told, are_records};
 ghost use Rattle.fcp_codec.specs.RuleRef.{rule_at};
 
 use crate::fcp::{Fcp, FileForm};

@@ -1,5 +1,6 @@
 //! What holds of the coding, whoever reads or writes it.
-ghost use Rattle.std.specs.Prelude.{◌≡◌, ◌≢◌, Ok, Err, Some, ◌<◌, ◌⊎◌, ◌↔◌, ℕ, List, Any, Contains, IsTrue};
+ghost use Rattle.std.specs.Prelude.{◌≡◌, ◌≢◌, Ok, Err, Some, ◌<◌, ◌⊎◌, ◌↔◌, ℕ, List, Any, Contains};
+ghost use Rattle.std.specs.Prelude.{IsTrue};
 ghost use Rattle.plain_lists.specs.EachTwo.{EachTwo};
 ghost use Rattle.ber_tlv.specs.Walk.{spelled};
 ghost use Rattle.file_rows.specs.Change.{Fits};

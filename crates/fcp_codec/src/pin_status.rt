@@ -5,7 +5,8 @@ ghost use Rattle.arrayvec.specs.ArrayVec.{array_vec_len};
 ghost use Rattle.ber_tlv.specs.Tlv.{shortest};
 ghost use Rattle.ber_tlv.specs.Walk.{spelled};
 ghost use Rattle.fcp_codec.specs.declared.tags.TheConstants.{ENABLED};
-ghost use Rattle.fcp_codec.specs.PinStatus.{counts_in, status_of, statuses_of, bits_of, status_bytes, key_object, template_of, status_objects};
+ghost use Rattle.fcp_codec.specs.PinStatus.{counts_in, status_of, statuses_of, bits_of};
+ghost use Rattle.fcp_codec.specs.PinStatus.{status_bytes, key_object, template_of, status_objects};
 
 use crate::tags;
 use crate::write::push_field;

@@ -1,5 +1,6 @@
 //! Reading file control parameters.
-ghost use Rattle.std.specs.Prelude.{◌≡◌, ◌⊎◌, List, ℕ, true, false, [], MatchResult, IsSome, IsNone, Result};
+ghost use Rattle.std.specs.Prelude.{◌≡◌, ◌⊎◌, List, ℕ, true, false, [], MatchResult, IsSome};
+ghost use Rattle.std.specs.Prelude.{IsNone, Result};
 ghost use Rattle.ber_tlv.specs.Walk.{Object, object_of};
 ghost use Rattle.fcp_codec.specs.declared.fault.FcpFault.{FcpFault};
 ghost use Rattle.fcp_codec.specs.declared.fcp.Fcp.{Fcp};

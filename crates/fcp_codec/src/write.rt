@@ -6,7 +6,9 @@ ghost use Rattle.ber_tlv.specs.Tlv.{shortest};
 ghost use Rattle.ber_tlv.specs.Walk.{spelled};
 ghost use Rattle.file_rows.specs.FileHead.{IsFile, HoldsRecords, holds_files};
 ghost use Rattle.fcp_codec.specs.declared.tags.TheConstants.{DESCRIPTOR};
-ghost use Rattle.fcp_codec.specs.Writing.{descriptor_for, life_byte, name_objects, proprietary_objects, rule_objects, sfi_objects, last_objects, objects_for, written_fcp};
+ghost use Rattle.fcp_codec.specs.Writing.{descriptor_for, life_byte, name_objects};
+ghost use Rattle.fcp_codec.specs.Writing.{proprietary_objects, rule_objects, sfi_objects};
+ghost use Rattle.fcp_codec.specs.Writing.{last_objects, objects_for, written_fcp};
 
 use crate::{pin_status, tags};
 use arrayvec::ArrayVec;

@@ -1,5 +1,6 @@
 -- A new file.
-use Rattle.std.proofs.Common.{◌≡◌, ◌≢◌, ◌↔◌, ℕ, ◌+◌, List, [], ◌∷◌, ◌++◌, length, refl, sym, ap, subst, ⊎_elim, inr, arith}
+use Rattle.std.proofs.Common.{◌≡◌, ◌≢◌, ◌↔◌, ℕ, ◌+◌, List, [], ◌∷◌, ◌++◌, length, refl, sym, ap}
+use Rattle.std.proofs.Common.{subst, ⊎_elim, inr, arith}
 use Rattle.std.proofs.lemmas.List.{length-replicate, map-append}
 use Rattle.std.proofs.lemmas.List.Sums.{sum_by-append, sum_by-cons}
 use Rattle.std.specs.Bool.{IsTrue}
@@ -9,7 +10,8 @@ use Rattle.plain_lists.specs.EachTwo.{EachTwo}
 use Rattle.file_rows.specs.Apart.{AreFilesApart}
 use Rattle.file_rows.specs.Change.{Fits, new_file}
 use Rattle.file_rows.specs.Conditions.{IsNewFile}
-use Rattle.file_rows.specs.Content.{AreFiles, ArePins, AreTree, IsAtHome, IsFileSystem, IsValid, file_at, heads_of, use_of}
+use Rattle.file_rows.specs.Content.{AreFiles, ArePins, AreTree, IsAtHome, IsFileSystem, IsValid}
+use Rattle.file_rows.specs.Content.{file_at, heads_of, use_of}
 use Rattle.file_rows.specs.FileHead.{Holds, IsFile, ShareName, ShareSfi, holds_files}
 use Rattle.file_rows.specs.declared.change.Change.TheVariants.{FileAdd}
 use Rattle.file_rows.specs.declared.content.Content.{Content}
@@ -18,7 +20,8 @@ use Rattle.file_rows.specs.declared.pin.PinRow.{PinRow}
 use Rattle.file_rows.specs.declared.row.FileRow.{FileRow}
 use Rattle.file_rows.proofs.ChangeLemmas.{same_path-other}
 use Rattle.file_rows.proofs.EachLemmas.{each_both, each_of_map, each_weaker}
-use Rattle.file_rows.proofs.ListLemmas.{any_left, any_of_map, each_append, each_right, two_last, two_push}
+use Rattle.file_rows.proofs.ListLemmas.{any_left, any_of_map, each_append, each_right, two_last}
+use Rattle.file_rows.proofs.ListLemmas.{two_push}
 use Rattle.file_rows.proofs.TreeLemmas.{tree_last, tree_push}
 
 module _ (head : FileHead) where

@@ -1,19 +1,26 @@
 -- Just when a change fits a valid content, by the kind of the change.
-use Rattle.std.proofs.Common.{◌≡◌, ◌↔◌, ℕ, zero, suc, ◌+◌, ◌-◌, ◌*◌, ◌≤◌, Bool, List, ◌++◌, length, take, drop, replicate, refl, sym, ◌∙◌, ap, subst, Option, Some, None, ⊎_elim, arith}
-use Rattle.std.proofs.lemmas.List.{length-append, length-drop, length-replicate, length-take, length-take-le}
+use Rattle.std.proofs.Common.{◌≡◌, ◌↔◌, ℕ, zero, suc, ◌+◌, ◌-◌, ◌*◌, ◌≤◌, Bool, List, ◌++◌, length}
+use Rattle.std.proofs.Common.{take, drop, replicate, refl, sym, ◌∙◌, ap, subst, Option, Some, None}
+use Rattle.std.proofs.Common.{⊎_elim, arith}
+use Rattle.std.proofs.lemmas.List.{length-append, length-drop, length-replicate, length-take}
+use Rattle.std.proofs.lemmas.List.{length-take-le}
 use Rattle.std.specs.Bool.{IsTrue}
 use Rattle.std.specs.Prelude.{IsSome, is_some}
-use Rattle.file_rows.specs.Change.{Fits, IsRecordFor, resized, with_body, with_file, with_life, with_record, with_size, written}
+use Rattle.file_rows.specs.Change.{Fits, IsRecordFor, resized, with_body, with_file, with_life}
+use Rattle.file_rows.specs.Change.{with_record, with_size, written}
 use Rattle.file_rows.specs.Conditions.{IsInsideBody, IsRecordOf, IsSizeOf, MeetsConditions}
 use Rattle.file_rows.specs.Content.{IsValid, file_at}
 use Rattle.file_rows.specs.FileHead.{HasForm, HoldsRecords, IsFile}
 use Rattle.file_rows.specs.Path.{same_path}
 use Rattle.file_rows.specs.declared.change.Change.{Change}
-use Rattle.file_rows.specs.declared.change.Change.TheVariants.{WriteRange, WriteRecord, PinSet, FileAdd, FileGone, FileState, FileSize}
+use Rattle.file_rows.specs.declared.change.Change.TheVariants.{WriteRange, WriteRecord, PinSet}
+use Rattle.file_rows.specs.declared.change.Change.TheVariants.{FileAdd, FileGone, FileState}
+use Rattle.file_rows.specs.declared.change.Change.TheVariants.{FileSize}
 use Rattle.file_rows.specs.declared.content.Content.{Content}
 use Rattle.file_rows.specs.declared.head.FileHead.{FileHead}
 use Rattle.file_rows.specs.declared.head.Kind.{Kind}
-use Rattle.file_rows.specs.declared.head.Kind.TheVariants.{Master, Directory, Application, Transparent, Linear, Cyclic}
+use Rattle.file_rows.specs.declared.head.Kind.TheVariants.{Master, Directory, Application}
+use Rattle.file_rows.specs.declared.head.Kind.TheVariants.{Transparent, Linear, Cyclic}
 use Rattle.file_rows.specs.declared.head.Life.{Life}
 use Rattle.file_rows.specs.declared.row.FileRow.{FileRow}
 use Rattle.file_rows.proofs.AddLemmas.{fits_new_file}

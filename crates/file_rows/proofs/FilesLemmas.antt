@@ -1,4 +1,5 @@
-use Rattle.std.proofs.Common.{◌≡◌, ◌≢◌, ◌≤◌, ◌↔◌, Bool, List, [], ◌∷◌, length, take, drop, get_or, sym, ◌∙◌, ap, arith}
+use Rattle.std.proofs.Common.{◌≡◌, ◌≢◌, ◌≤◌, ◌↔◌, Bool, List, [], ◌∷◌, length, take, drop, get_or}
+use Rattle.std.proofs.Common.{sym, ◌∙◌, ap, arith}
 use Rattle.std.specs.Bool.{IsTrue}
 use Rattle.std.specs.List.{AllByRecursion}
 use Rattle.plain_lists.specs.EachTwo.{EachTwo}
@@ -8,7 +9,8 @@ use Rattle.file_rows.specs.FileHead.{IsFile, ShareName, ShareSfi}
 use Rattle.file_rows.specs.declared.head.FileHead.{FileHead}
 use Rattle.file_rows.specs.declared.head.Kind.TheVariants.{Master}
 use Rattle.file_rows.specs.declared.row.FileRow.{FileRow}
-use Rattle.file_rows.proofs.EachLemmas.{each_both, each_of_map, each_weaker, two_both, two_of_map, two_weaker}
+use Rattle.file_rows.proofs.EachLemmas.{each_both, each_of_map, each_weaker, two_both, two_of_map}
+use Rattle.file_rows.proofs.EachLemmas.{two_weaker}
 
 -- the first file is the root, and no other one is
 pub root_and_rest : (rows : List FileRow) (first : FileRow) (r : Bool) → 1 ≤ length rows → first ≡ get_or rows 0 first → first.head.kind ≡ Master

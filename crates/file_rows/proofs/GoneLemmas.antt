@@ -1,11 +1,13 @@
 -- A file that goes, with all files below it and the PINs at home there.
-use Rattle.std.proofs.Common.{◌≡◌, ◌≢◌, ◌⊎◌, ℕ, ◌+◌, Bool, true, false, not, List, [], ◌∷◌, ◌++◌, length, filter, refl, sym, ◌∙◌, ap, subst, ⊎_elim, inl, inr, arith}
+use Rattle.std.proofs.Common.{◌≡◌, ◌≢◌, ◌⊎◌, ℕ, ◌+◌, Bool, true, false, not, List, [], ◌∷◌, ◌++◌}
+use Rattle.std.proofs.Common.{length, filter, refl, sym, ◌∙◌, ap, subst, ⊎_elim, inl, inr, arith}
 use Rattle.std.proofs.lemmas.Bool.{true≢false}
 use Rattle.std.specs.Bool.{IsTrue}
 use Rattle.std.specs.List.{AllByRecursion}
 use Rattle.plain_lists.specs.EachTwo.{EachTwo}
 use Rattle.file_rows.specs.Change.{changed}
-use Rattle.file_rows.specs.Content.{AreFiles, ArePins, AreTree, IsAtHome, IsFileSystem, IsValid, heads_of, use_of}
+use Rattle.file_rows.specs.Content.{AreFiles, ArePins, AreTree, IsAtHome, IsFileSystem, IsValid}
+use Rattle.file_rows.specs.Content.{heads_of, use_of}
 use Rattle.file_rows.specs.FileHead.{HasForm, Holds, IsFile, ShareName, ShareSfi, holds_files}
 use Rattle.file_rows.specs.Path.{master, stands_below}
 use Rattle.file_rows.specs.PinRow.{IsPin, ShareKey}
@@ -16,7 +18,8 @@ use Rattle.file_rows.specs.declared.head.Kind.{Kind}
 use Rattle.file_rows.specs.declared.head.Kind.TheVariants.{Master}
 use Rattle.file_rows.specs.declared.pin.PinRow.{PinRow}
 use Rattle.file_rows.specs.declared.row.FileRow.{FileRow}
-use Rattle.file_rows.proofs.ListLemmas.{any_filter, each_filter, each_kept, filter_none, length-filter-le, map_of_filter, sum_by-filter, two_filter}
+use Rattle.file_rows.proofs.ListLemmas.{any_filter, each_filter, each_kept, filter_none}
+use Rattle.file_rows.proofs.ListLemmas.{length-filter-le, map_of_filter, sum_by-filter, two_filter}
 use Rattle.file_rows.proofs.PathLemmas.{below_is, below_more, is_below, is_false}
 use Rattle.file_rows.proofs.TreeLemmas.{tree_filter}
 

@@ -1,15 +1,19 @@
 -- What a change leaves of the PINs.
-use Rattle.std.proofs.Common.{◌≡◌, ◌≢◌, ◌↔◌, ℕ, Bool, true, false, cond, not, ◌==◌, List, [], ◌∷◌, refl, sym, ◌∙◌, ap, Contains, ⊎_elim, arith}
+use Rattle.std.proofs.Common.{◌≡◌, ◌≢◌, ◌↔◌, ℕ, Bool, true, false, cond, not, ◌==◌, List, [], ◌∷◌}
+use Rattle.std.proofs.Common.{refl, sym, ◌∙◌, ap, Contains, ⊎_elim, arith}
 use Rattle.std.proofs.lemmas.Bool.{true≢false}
 use Rattle.std.proofs.lemmas.Bool.Decides.{Decides-eqb}
 use Rattle.std.specs.Bool.{IsTrue}
 use Rattle.file_rows.specs.Change.{TouchesPin, changed, with_pin}
 use Rattle.file_rows.specs.Path.{stands_below}
 use Rattle.file_rows.specs.declared.change.Change.{Change}
-use Rattle.file_rows.specs.declared.change.Change.TheVariants.{WriteRange, WriteRecord, PinSet, FileAdd, FileGone, FileState, FileSize}
+use Rattle.file_rows.specs.declared.change.Change.TheVariants.{WriteRange, WriteRecord, PinSet}
+use Rattle.file_rows.specs.declared.change.Change.TheVariants.{FileAdd, FileGone, FileState}
+use Rattle.file_rows.specs.declared.change.Change.TheVariants.{FileSize}
 use Rattle.file_rows.specs.declared.content.Content.{Content}
 use Rattle.file_rows.specs.declared.pin.PinRow.{PinRow}
-use Rattle.file_rows.proofs.ListLemmas.{contains-filter, contains_cases, contains_later, contains_same, filter-contains}
+use Rattle.file_rows.proofs.ListLemmas.{contains-filter, contains_cases, contains_later}
+use Rattle.file_rows.proofs.ListLemmas.{contains_same, filter-contains}
 use Rattle.file_rows.proofs.PathLemmas.{is_false}
 
 from_not : (b : Bool) → not b ≡ true → b ≡ false

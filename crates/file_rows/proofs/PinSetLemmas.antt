@@ -1,5 +1,6 @@
 -- A PIN of a card set.
-use Rattle.std.proofs.Common.{◌≡◌, ◌≢◌, ◌↔◌, suc, false, ◌==◌, List, [], ◌∷◌, ◌++◌, length, refl, sym, ◌∙◌, ap, subst, ⊎_elim, inr, arith}
+use Rattle.std.proofs.Common.{◌≡◌, ◌≢◌, ◌↔◌, suc, false, ◌==◌, List, [], ◌∷◌, ◌++◌, length, refl}
+use Rattle.std.proofs.Common.{sym, ◌∙◌, ap, subst, ⊎_elim, inr, arith}
 use Rattle.std.proofs.lemmas.Bool.Decides.{Decides-eqb}
 use Rattle.std.specs.Bool.{IsTrue}
 use Rattle.std.specs.List.{Any, AllByRecursion}
@@ -14,7 +15,8 @@ use Rattle.file_rows.specs.declared.content.Content.{Content}
 use Rattle.file_rows.specs.declared.head.FileHead.{FileHead}
 use Rattle.file_rows.specs.declared.pin.PinRow.{PinRow}
 use Rattle.file_rows.proofs.EachLemmas.{each_weaker}
-use Rattle.file_rows.proofs.ListLemmas.{any_cases, any_none, any_weaker, each_replaced, each_right, two_replaced}
+use Rattle.file_rows.proofs.ListLemmas.{any_cases, any_none, any_weaker, each_replaced, each_right}
+use Rattle.file_rows.proofs.ListLemmas.{two_replaced}
 use Rattle.file_rows.proofs.PathLemmas.{is_false}
 
 -- the PIN stands between others, which setting it leaves alone

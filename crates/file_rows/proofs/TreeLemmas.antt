@@ -1,10 +1,12 @@
-use Rattle.std.proofs.Common.{◌≡◌, ◌≢◌, Bool, true, false, cond, List, [], ◌∷◌, ◌++◌, filter, refl, sym, ◌∙◌, ap, subst, append_assoc, append-nil}
+use Rattle.std.proofs.Common.{◌≡◌, ◌≢◌, Bool, true, false, cond, List, [], ◌∷◌, ◌++◌, filter, refl}
+use Rattle.std.proofs.Common.{sym, ◌∙◌, ap, subst, append_assoc, append-nil}
 use Rattle.std.specs.List.{Any, AllByRecursion}
 use Rattle.file_rows.specs.Content.{AreTree, StandInEarlier}
 use Rattle.file_rows.specs.FileHead.{Holds, IsFile}
 use Rattle.file_rows.specs.declared.head.FileHead.{FileHead}
 use Rattle.file_rows.specs.declared.head.Kind.TheVariants.{Master}
-use Rattle.file_rows.proofs.ListLemmas.{any_filter, any_replaced, any_weaker, each_append, each_filter, each_replaced, each_right}
+use Rattle.file_rows.proofs.ListLemmas.{any_filter, any_replaced, any_weaker, each_append}
+use Rattle.file_rows.proofs.ListLemmas.{each_filter, each_replaced, each_right}
 
 -- one head in the place of another that holds the same files and stands in the same directory
 module _ (head head' : FileHead) (kind : head'.kind ≡ head.kind)

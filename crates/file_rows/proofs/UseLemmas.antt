@@ -1,14 +1,18 @@
 -- How much of the quota the files take after a change.
 use Rattle.std.proofs.Common.{◌≡◌, ℕ, ◌+◌, ◌≤◌, List, length, refl, ap, Some, arith}
-use Rattle.file_rows.specs.Change.{KeepsSizes, NamesWhatIsThere, IsRecordFor, changed, with_body, with_file, with_life, with_record, with_size, written}
+use Rattle.file_rows.specs.Change.{KeepsSizes, NamesWhatIsThere, IsRecordFor, changed, with_body}
+use Rattle.file_rows.specs.Change.{with_file, with_life, with_record, with_size, written}
 use Rattle.file_rows.specs.Content.{AreFiles, file_at, use_of}
 use Rattle.file_rows.specs.FileHead.{IsFile}
 use Rattle.file_rows.specs.Path.{same_path}
 use Rattle.file_rows.specs.declared.change.Change.{Change}
-use Rattle.file_rows.specs.declared.change.Change.TheVariants.{WriteRange, WriteRecord, PinSet, FileAdd, FileGone, FileState, FileSize}
+use Rattle.file_rows.specs.declared.change.Change.TheVariants.{WriteRange, WriteRecord, PinSet}
+use Rattle.file_rows.specs.declared.change.Change.TheVariants.{FileAdd, FileGone, FileState}
+use Rattle.file_rows.specs.declared.change.Change.TheVariants.{FileSize}
 use Rattle.file_rows.specs.declared.content.Content.{Content}
 use Rattle.file_rows.specs.declared.row.FileRow.{FileRow}
-use Rattle.file_rows.proofs.ConditionLemmas.{length-resized, length-written, record_long, some_found}
+use Rattle.file_rows.proofs.ConditionLemmas.{length-resized, length-written, record_long}
+use Rattle.file_rows.proofs.ConditionLemmas.{some_found}
 use Rattle.file_rows.proofs.EachLemmas.{each_of_map}
 use Rattle.file_rows.proofs.EditLemmas.{some_is, stands, use_replaced}
 use Rattle.file_rows.proofs.FindLemmas.{found_has}

@@ -1,9 +1,13 @@
-use Rattle.std.specs.Prelude.{ℕ, zero, suc, ◌≡◌, ◌≤◌, ◌+◌, ◌-◌, ◌*◌, ◌⊎◌, List, [], ◌∷◌, ◌++◌, length, map, filter, take, drop, replicate, not, ◌==◌, if◌then◌else◌, Any, IsSome, IsNone, IsSomeAnd, IsTrue, ⊤}
+use Rattle.std.specs.Prelude.{ℕ, zero, suc, ◌≡◌, ◌≤◌, ◌+◌, ◌-◌, ◌*◌, ◌⊎◌, List, [], ◌∷◌, ◌++◌}
+use Rattle.std.specs.Prelude.{length, map, filter, take, drop, replicate, not, ◌==◌, if◌then◌else◌}
+use Rattle.std.specs.Prelude.{Any, IsSome, IsNone, IsSomeAnd, IsTrue, ⊤}
 use Rattle.file_rows.specs.Content.{IsValid, file_at}
 use Rattle.file_rows.specs.FileHead.{HasRecord, Holds}
 use Rattle.file_rows.specs.Path.{same_path, stands_below}
 use Rattle.file_rows.specs.declared.change.Change.{Change}
-use Rattle.file_rows.specs.declared.change.Change.TheVariants.{WriteRange, WriteRecord, PinSet, FileAdd, FileGone, FileState, FileSize}
+use Rattle.file_rows.specs.declared.change.Change.TheVariants.{WriteRange, WriteRecord, PinSet}
+use Rattle.file_rows.specs.declared.change.Change.TheVariants.{FileAdd, FileGone, FileState}
+use Rattle.file_rows.specs.declared.change.Change.TheVariants.{FileSize}
 use Rattle.file_rows.specs.declared.content.Content.{Content}
 use Rattle.file_rows.specs.declared.head.FileHead.{FileHead}
 use Rattle.file_rows.specs.declared.head.Kind.TheVariants.{Cyclic}

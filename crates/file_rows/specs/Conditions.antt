@@ -7,7 +7,9 @@ use Rattle.file_rows.specs.Content.{file_at, use_of}
 use Rattle.file_rows.specs.FileHead.{Holds, IsFile}
 use Rattle.file_rows.specs.PinRow.{IsPin}
 use Rattle.file_rows.specs.declared.change.Change.{Change}
-use Rattle.file_rows.specs.declared.change.Change.TheVariants.{WriteRange, WriteRecord, PinSet, FileAdd, FileGone, FileState, FileSize}
+use Rattle.file_rows.specs.declared.change.Change.TheVariants.{WriteRange, WriteRecord, PinSet}
+use Rattle.file_rows.specs.declared.change.Change.TheVariants.{FileAdd, FileGone, FileState}
+use Rattle.file_rows.specs.declared.change.Change.TheVariants.{FileSize}
 use Rattle.file_rows.specs.declared.content.Content.{Content}
 use Rattle.file_rows.specs.declared.content.TheConstants.{QUOTA}
 use Rattle.file_rows.specs.declared.head.FileHead.{FileHead}

@@ -1,8 +1,10 @@
-use Rattle.std.specs.Prelude.{ℕ, Bool, true, false, ◌||◌, ◌≡◌, ◌≢◌, ◌≤◌, ◌*◌, List, [], length, IsTrue}
+use Rattle.std.specs.Prelude.{ℕ, Bool, true, false, ◌||◌, ◌≡◌, ◌≢◌, ◌≤◌, ◌*◌, List, [], length}
+use Rattle.std.specs.Prelude.{IsTrue}
 use Rattle.file_rows.specs.Path.{IsIn, master}
 use Rattle.file_rows.specs.declared.head.FileHead.{FileHead}
 use Rattle.file_rows.specs.declared.head.Kind.{Kind}
-use Rattle.file_rows.specs.declared.head.Kind.TheVariants.{Master, Directory, Application, Transparent, Linear, Cyclic}
+use Rattle.file_rows.specs.declared.head.Kind.TheVariants.{Master, Directory, Application}
+use Rattle.file_rows.specs.declared.head.Kind.TheVariants.{Transparent, Linear, Cyclic}
 
 -- whether files of this kind hold files: the MF and the dedicated files of ETSI TS 102 221
 abbrev pub holds_files : Kind → Bool

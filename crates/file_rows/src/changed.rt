@@ -1,6 +1,9 @@
 // The content after a change.
-ghost use Rattle.std.specs.Prelude.{◌≡◌, ◌≤◌, ◌<◌, ◌+◌, ◌^◌, ◌++◌, ◌∷◌, [], IfOk, not, filter, length, take, drop};
-ghost use Rattle.file_rows.specs.Change.{changed, file_after, new_file, resized, with_body, with_file, with_life, with_pin, with_record, with_size, written};
+ghost use Rattle.std.specs.Prelude.{◌≡◌, ◌≤◌, ◌<◌, ◌+◌, ◌^◌, ◌++◌, ◌∷◌, [], IfOk, not, filter};
+ghost use Rattle.std.specs.Prelude.{length, take, drop};
+ghost use Rattle.file_rows.specs.Change.{changed, file_after, new_file, resized, with_body};
+ghost use Rattle.file_rows.specs.Change.{with_file, with_life, with_pin, with_record, with_size};
+ghost use Rattle.file_rows.specs.Change.{written};
 ghost use Rattle.file_rows.specs.Path.{same_path, stands_below};
 
 use crate::{Change, Content, FileHead, FileRow, Life, NoMemory, Path, PinRow, copy_pins};

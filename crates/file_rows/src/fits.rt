@@ -1,9 +1,11 @@
 // Whether a change fits a valid content, by the kind of the change.
-ghost use Rattle.std.specs.Prelude.{◌≡◌, ◌+◌, ◌≤◌, ◌↔◌, Some, None, Any, IfNone, IfSome, IsSome, IsTrue, length};
+ghost use Rattle.std.specs.Prelude.{◌≡◌, ◌+◌, ◌≤◌, ◌↔◌, Some, None, Any, IfNone, IfSome, IsSome};
+ghost use Rattle.std.specs.Prelude.{IsTrue, length};
 ghost use Rattle.std.specs.List.{AllByRecursion};
 ghost use Rattle.file_rows.specs.Apart.{AreFilesApart};
 ghost use Rattle.file_rows.specs.Change.{Fits, IsRecordFor, KeepsPin};
-ghost use Rattle.file_rows.specs.Conditions.{IsInsideBody, IsNewFile, IsPinOf, IsRecordOf, IsSizeOf};
+ghost use Rattle.file_rows.specs.Conditions.{IsInsideBody, IsNewFile, IsPinOf, IsRecordOf};
+ghost use Rattle.file_rows.specs.Conditions.{IsSizeOf};
 ghost use Rattle.file_rows.specs.Content.{IsValid, file_at, use_of};
 ghost use Rattle.file_rows.specs.FileHead.{Holds, IsFile};
 ghost use Rattle.file_rows.specs.Path.{same_path};

@@ -1,6 +1,7 @@
 // Whether a file has the form of its kind.
 ghost use Rattle.std.specs.Prelude.{◌≡◌, ℕ, ◌*◌, ◌≤◌, ◌↔◌, IsTrue};
-ghost use Rattle.file_rows.specs.FileHead.{HasForm, HoldsRecords, IsApplication, IsBare, IsDirectory, IsFile, IsMaster, IsTransparent};
+ghost use Rattle.file_rows.specs.FileHead.{HasForm, HoldsRecords, IsApplication, IsBare};
+ghost use Rattle.file_rows.specs.FileHead.{IsDirectory, IsFile, IsMaster, IsTransparent};
 ghost use Rattle.file_rows.specs.Path.{IsIn};
 
 use crate::{FileHead, Kind};

@@ -1,10 +1,12 @@
-ghost use Rattle.std.specs.Prelude.{◌≡◌, ◌≢◌, ◌↔◌, ◌+◌, List, ℕ, [], ◌∷◌, ◌++◌, Contains, IsNone, IsTrue, Some, None};
+ghost use Rattle.std.specs.Prelude.{◌≡◌, ◌≢◌, ◌↔◌, ◌+◌, List, ℕ, [], ◌∷◌, ◌++◌, Contains, IsNone};
+ghost use Rattle.std.specs.Prelude.{IsTrue, Some, None};
 ghost use Rattle.file_rows.specs.declared.change.Change.{Change};
 ghost use Rattle.file_rows.specs.declared.content.Content.{Content};
 ghost use Rattle.file_rows.specs.declared.head.FileHead.{FileHead};
 ghost use Rattle.file_rows.specs.declared.pin.PinRow.{PinRow};
 ghost use Rattle.file_rows.specs.declared.row.FileRow.{FileRow};
-ghost use Rattle.file_rows.specs.Change.{Fits, KeepsSizes, NamesWhatIsThere, TouchesFile, TouchesPin, changed, new_file, with_file, with_size};
+ghost use Rattle.file_rows.specs.Change.{Fits, KeepsSizes, NamesWhatIsThere, TouchesFile};
+ghost use Rattle.file_rows.specs.Change.{TouchesPin, changed, new_file, with_file, with_size};
 ghost use Rattle.file_rows.specs.Conditions.{MeetsConditions};
 ghost use Rattle.file_rows.specs.Content.{AreFiles, IsValid, file_at, use_of};
 ghost use Rattle.file_rows.specs.Find.{child_with_sfi};

@@ -1,6 +1,7 @@
 // Whether a content is one that a card may hold.
 ghost use Rattle.std.specs.Prelude.{◌≡◌, ◌⊎◌, ◌≤◌, ◌↔◌, [], length, IsTrue};
-ghost use Rattle.file_rows.specs.Content.{ArePins, AreFiles, IsEmpty, IsFileSystem, IsValid, heads_of, use_of};
+ghost use Rattle.file_rows.specs.Content.{ArePins, AreFiles, IsEmpty, IsFileSystem, IsValid};
+ghost use Rattle.file_rows.specs.Content.{heads_of, use_of};
 
 use crate::files::are_files;
 use crate::pins::are_pins;

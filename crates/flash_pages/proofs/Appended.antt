@@ -1,14 +1,19 @@
 -- A row appended in two steps: what stands behind its gate, and the gate.
-use Rattle.std.proofs.Common.{◌≡◌, inl, inr, ℕ, ◌+◌, ◌-◌, ◌*◌, ◌≤◌, IsTrue, List, [], ◌∷◌, ◌++◌, length, Some, IfSome, Result, Ok, Err, IsErr, is_ok, OnOk, sym, ◌∙◌, ap, arith}
+use Rattle.std.proofs.Common.{◌≡◌, inl, inr, ℕ, ◌+◌, ◌-◌, ◌*◌, ◌≤◌, IsTrue, List, [], ◌∷◌, ◌++◌}
+use Rattle.std.proofs.Common.{length, Some, IfSome, Result, Ok, Err, IsErr, is_ok, OnOk, sym, ◌∙◌}
+use Rattle.std.proofs.Common.{ap, arith}
 use Rattle.std.proofs.lemmas.Bool.{false≢true}
 use Rattle.flash_pages.specs.declared.bank.Bank.{Bank}
 use Rattle.flash_pages.specs.Append.{IsTornRow, EndsAt, AppendsRow, LeavesTornRow, KeepsRows}
 use Rattle.flash_pages.specs.Bank.{start_of, end_of, bank_bytes}
 use Rattle.flash_pages.specs.Bytes.{blank, part, patch, DiffersIn}
-use Rattle.flash_pages.specs.Flash.{FlashState, block_len, card_blocks, IsFlash, HasImages, LeavesOnly, AddsOnly, Changes, Touches}
+use Rattle.flash_pages.specs.Flash.{FlashState, block_len, card_blocks, IsFlash, HasImages}
+use Rattle.flash_pages.specs.Flash.{LeavesOnly, AddsOnly, Changes, Touches}
 use Rattle.flash_pages.specs.Rows.{behind_gate, row_of, HasRows}
 use Rattle.flash_pages.proofs.Patches.{patch_gate, part_before, part-blank, take-patch-prefix}
-use Rattle.flash_pages.proofs.Touched.{at_some, from_each, same_some, flash_size, LeavesOnly-trans, AddsOnly-trans, AddsOnly-weaken, Touches-wider, Touches-trans, Touches-from_changes}
+use Rattle.flash_pages.proofs.Touched.{at_some, from_each, same_some, flash_size, LeavesOnly-trans}
+use Rattle.flash_pages.proofs.Touched.{AddsOnly-trans, AddsOnly-weaken, Touches-wider}
+use Rattle.flash_pages.proofs.Touched.{Touches-trans, Touches-from_changes}
 use Rattle.flash_pages.proofs.RowLemmas.{length-behind_gate}
 use Rattle.flash_pages.proofs.Outcome.{torn_in_bank, appended_in_bank}
 

@@ -1,6 +1,9 @@
 -- For the stores above: a bank of which all is FF behind its open rows.
-use Rattle.std.proofs.Common.{◌≡◌, ℕ, zero, suc, ◌+◌, ◌-◌, ◌*◌, ◌≤◌, List, [], ◌∷◌, ◌++◌, length, take, drop, refl, sym, ◌∙◌, ap, subst, arith, append_assoc, length-append}
-use Rattle.std.proofs.lemmas.List.{take_at, drop_at, drop-drop, drop-replicate, take-replicate, replicate-append-replicate}
+use Rattle.std.proofs.Common.{◌≡◌, ℕ, zero, suc, ◌+◌, ◌-◌, ◌*◌, ◌≤◌, List, [], ◌∷◌, ◌++◌, length}
+use Rattle.std.proofs.Common.{take, drop, refl, sym, ◌∙◌, ap, subst, arith, append_assoc}
+use Rattle.std.proofs.Common.{length-append}
+use Rattle.std.proofs.lemmas.List.{take_at, drop_at, drop-drop, drop-replicate, take-replicate}
+use Rattle.std.proofs.lemmas.List.{replicate-append-replicate}
 use Rattle.std.proofs.Math.Seq.{take-add}
 use Rattle.flash_pages.specs.declared.bank.Bank.{Bank}
 use Rattle.flash_pages.specs.Append.{EndsAt, EndsBlank}
@@ -8,7 +11,8 @@ use Rattle.flash_pages.specs.Bank.{start_of, end_of, bank_bytes}
 use Rattle.flash_pages.specs.Bytes.{blank, part, patch, IsErased}
 use Rattle.flash_pages.specs.Rows.{row_of, open_rows, IsClosed, HasRows, RowsUpTo}
 use Rattle.flash_pages.proofs.Outcome.{open_rows-push, length-bank_bytes}
-use Rattle.flash_pages.proofs.Patches.{length-blank, length-patch, take-patch-prefix, part_before, part-part, part-patch, part-patch_same}
+use Rattle.flash_pages.proofs.Patches.{length-blank, length-patch, take-patch-prefix, part_before}
+use Rattle.flash_pages.proofs.Patches.{part-part, part-patch, part-patch_same}
 use Rattle.flash_pages.proofs.Reading.{length-open_rows-push, split, rest_of_bank}
 use Rattle.flash_pages.proofs.RowLemmas.{length-row_of}
 

@@ -1,5 +1,8 @@
 -- What a call of a flash in memory does to what contracts see of it.
-use Rattle.std.proofs.Common.{◌≡◌, ◌⊎◌, ◌↔◌, inl, inr, ⊎_elim, ℕ, zero, suc, ◌+◌, ◌≤◌, Bool, true, false, IsTrue, ◌&&◌, nat_lt, if◌then◌else◌, List, [], ◌∷◌, length, Option, Some, None, IfSome, Result, Ok, Err, IsErr, is_ok, refl, sym, ◌∙◌, ap, subst, arith}
+use Rattle.std.proofs.Common.{◌≡◌, ◌⊎◌, ◌↔◌, inl, inr, ⊎_elim, ℕ, zero, suc, ◌+◌, ◌≤◌, Bool, true}
+use Rattle.std.proofs.Common.{false, IsTrue, ◌&&◌, nat_lt, if◌then◌else◌, List, [], ◌∷◌, length}
+use Rattle.std.proofs.Common.{Option, Some, None, IfSome, Result, Ok, Err, IsErr, is_ok, refl, sym}
+use Rattle.std.proofs.Common.{◌∙◌, ap, subst, arith}
 use Rattle.std.specs.List.{range_with_len}
 use Rattle.std.proofs.lemmas.Bool.{false≢true}
 use Rattle.std.proofs.lemmas.List.{get_or-replicate, length-map}
@@ -11,7 +14,8 @@ use Rattle.flash_pages.specs.declared.plan.Outcome.TheVariants.{Done, Torn, Off}
 use Rattle.flash_pages.specs.Left.{left_by, with_left}
 use Rattle.flash_pages.specs.Memory.{LeavesImagesSince}
 use Rattle.flash_pages.specs.Plan.{is_done}
-use Rattle.flash_pages.specs.Past.{Call, Write, Restarted, content, last_ok, Since, Past, MayLeave, after_call, memory_state}
+use Rattle.flash_pages.specs.Past.{Call, Write, Restarted, content, last_ok, Since, Past, MayLeave}
+use Rattle.flash_pages.specs.Past.{after_call, memory_state}
 use Rattle.flash_pages.specs.MemoryLaw.{Since-now, Since-only}
 use Rattle.flash_pages.proofs.Patches.{length-blank, DiffersIn-refl, DiffersIn-patch}
 

@@ -1,5 +1,7 @@
 -- What a torn row leaves of a bank's open rows.
-use Rattle.std.proofs.Common.{◌≡◌, inl, inr, ℕ, ◌+◌, ◌-◌, ◌*◌, ◌<◌, ◌≤◌, List, [], ◌∷◌, ◌++◌, length, get_or, take, drop, sym, ◌∙◌, ap, subst, arith, append_assoc, append-nil, length-append, length-drop, take-append-drop}
+use Rattle.std.proofs.Common.{◌≡◌, inl, inr, ℕ, ◌+◌, ◌-◌, ◌*◌, ◌<◌, ◌≤◌, List, [], ◌∷◌, ◌++◌}
+use Rattle.std.proofs.Common.{length, get_or, take, drop, sym, ◌∙◌, ap, subst, arith, append_assoc}
+use Rattle.std.proofs.Common.{append-nil, length-append, length-drop, take-append-drop}
 use Rattle.std.proofs.lemmas.List.{take_at, take-take, drop_more, length-take-le}
 use Rattle.std.proofs.lemmas.Bool.{cases_eq}
 use Rattle.std.proofs.Math.Seq.{take-append-add}
@@ -8,7 +10,9 @@ use Rattle.flash_pages.specs.Bank.{start_of, end_of, bank_bytes}
 use Rattle.flash_pages.specs.Bytes.{part, patch, DiffersIn}
 use Rattle.flash_pages.specs.Append.{IsTornRow, EndsAt, HasRowsOrOneMore}
 use Rattle.flash_pages.specs.Rows.{behind_gate, row_of, open_rows, IsClosed, HasRows}
-use Rattle.flash_pages.proofs.Patches.{DiffersIn-trans, DiffersIn-wider, DiffersIn-patch, take-patch-prefix, drop-patch-prefix, length-patch, part-DiffersIn, part-patch}
+use Rattle.flash_pages.proofs.Patches.{DiffersIn-trans, DiffersIn-wider, DiffersIn-patch}
+use Rattle.flash_pages.proofs.Patches.{take-patch-prefix, drop-patch-prefix, length-patch}
+use Rattle.flash_pages.proofs.Patches.{part-DiffersIn, part-patch}
 use Rattle.flash_pages.proofs.RowLemmas.{length-behind_gate, length-row_of}
 
 pub open_rows-push : (bodies : List (List ℕ)) (body rest : List ℕ)

@@ -1,6 +1,11 @@
 -- Patches of a list of bytes, and lists that differ in one range alone.
-use Rattle.std.proofs.Common.{◌≡◌, ◌⊎◌, inl, inr, ℕ, ◌+◌, ◌-◌, ◌<◌, ◌≤◌, get_or, min, List, [], ◌∷◌, ◌++◌, length, take, drop, replicate, refl, sym, ◌∙◌, ap, arith, append_assoc, append-nil, length-append, length-drop, take-append-drop}
-use Rattle.std.proofs.lemmas.List.{take_at, drop_at, take-take, drop-drop, drop-take, take-replicate, drop-replicate, length-take, length-take-le, length-replicate, get_or-replicate, ext_get_or}
+use Rattle.std.proofs.Common.{◌≡◌, ◌⊎◌, inl, inr, ℕ, ◌+◌, ◌-◌, ◌<◌, ◌≤◌, get_or, min, List, [], ◌∷◌}
+use Rattle.std.proofs.Common.{◌++◌, length, take, drop, replicate, refl, sym, ◌∙◌, ap, arith}
+use Rattle.std.proofs.Common.{append_assoc, append-nil, length-append, length-drop}
+use Rattle.std.proofs.Common.{take-append-drop}
+use Rattle.std.proofs.lemmas.List.{take_at, drop_at, take-take, drop-drop, drop-take}
+use Rattle.std.proofs.lemmas.List.{take-replicate, drop-replicate, length-take, length-take-le}
+use Rattle.std.proofs.lemmas.List.{length-replicate, get_or-replicate, ext_get_or}
 use Rattle.flash_pages.specs.Bytes.{blank, part, patch, DiffersIn}
 
 pub length-blank : (n : ℕ) → length (blank n) ≡ n

@@ -1,5 +1,6 @@
 -- One more piece of a list that is programmed piece by piece.
-use Rattle.std.proofs.Common.{◌≡◌, ℕ, ◌+◌, ◌*◌, ◌≤◌, IsTrue, List, ◌++◌, length, take, drop, Some, IfSome, Result, is_ok, sym, ◌∙◌, ap, arith}
+use Rattle.std.proofs.Common.{◌≡◌, ℕ, ◌+◌, ◌*◌, ◌≤◌, IsTrue, List, ◌++◌, length, take, drop, Some}
+use Rattle.std.proofs.Common.{IfSome, Result, is_ok, sym, ◌∙◌, ap, arith}
 use Rattle.std.proofs.lemmas.List.{length-take-le}
 use Rattle.std.proofs.Math.Seq.{take-add}
 use Rattle.flash_pages.specs.Bytes.{blank, part, patch}
@@ -7,7 +8,8 @@ use Rattle.flash_pages.specs.Flash.{FlashState, block_len, IsFlash, IsRange, Cha
 use Rattle.flash_pages.specs.Rows.{behind_gate}
 use Rattle.flash_pages.proofs.RowLemmas.{length-behind_gate}
 use Rattle.flash_pages.proofs.Patches.{drop-patch, patch-patch, part-blank}
-use Rattle.flash_pages.proofs.Touched.{at_some, from_each, known_before, same_some, flash_size, Touches-wider, Touches-trans, Touches-from_changes}
+use Rattle.flash_pages.proofs.Touched.{at_some, from_each, known_before, same_some, flash_size}
+use Rattle.flash_pages.proofs.Touched.{Touches-wider, Touches-trans, Touches-from_changes}
 
 -- b is a after some pieces of this list, and these bytes are the next one
 pub record IsNextPiece (blocks : ℕ) (a b : FlashState) (place done len : ℕ)

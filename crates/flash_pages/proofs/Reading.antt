@@ -1,11 +1,14 @@
 -- Rows read one after another are the bank's rows.
-use Rattle.std.proofs.Common.{◌≡◌, ℕ, ◌+◌, ◌-◌, ◌*◌, ◌^◌, ◌<◌, ◌≤◌, List, [], ◌∷◌, ◌++◌, length, take, drop, refl, sym, ◌∙◌, ap, subst, arith, append_assoc, length-append, take-append-drop}
+use Rattle.std.proofs.Common.{◌≡◌, ℕ, ◌+◌, ◌-◌, ◌*◌, ◌^◌, ◌<◌, ◌≤◌, List, [], ◌∷◌, ◌++◌, length}
+use Rattle.std.proofs.Common.{take, drop, refl, sym, ◌∙◌, ap, subst, arith, append_assoc}
+use Rattle.std.proofs.Common.{length-append, take-append-drop}
 use Rattle.std.proofs.lemmas.List.{take_at, drop_at, drop-drop, drop-take}
 use Rattle.flash_pages.specs.declared.bank.Bank.{Bank}
 use Rattle.flash_pages.specs.declared.row.RowAt.TheVariants.{Open, End, Overrun}
 use Rattle.flash_pages.specs.Bank.{start_of, end_of, bank_bytes}
 use Rattle.flash_pages.specs.Bytes.{part}
-use Rattle.flash_pages.specs.Rows.{row_of, open_rows, IsClosed, HasRows, BeginsWithRow, RowIs, LiesBefore, RowsUpTo, ReadsAs}
+use Rattle.flash_pages.specs.Rows.{row_of, open_rows, IsClosed, HasRows, BeginsWithRow, RowIs}
+use Rattle.flash_pages.specs.Rows.{LiesBefore, RowsUpTo, ReadsAs}
 use Rattle.flash_pages.proofs.Patches.{part-part}
 use Rattle.flash_pages.proofs.RowLemmas.{length-row_of}
 use Rattle.flash_pages.proofs.Outcome.{open_rows-push}

@@ -1,12 +1,15 @@
 -- For the stores above: what each content of the flash has, carried over each call.
-use Rattle.std.proofs.Common.{◌≡◌, ◌↔◌, Option, None, refl, inl, inr, ⊎_elim, ℕ, ◌+◌, List, length, Some, IsSome, IfSome, Result, sym, ◌∙◌}
+use Rattle.std.proofs.Common.{◌≡◌, ◌↔◌, Option, None, refl, inl, inr, ⊎_elim, ℕ, ◌+◌, List, length}
+use Rattle.std.proofs.Common.{Some, IsSome, IfSome, Result, sym, ◌∙◌}
 use Rattle.std.proofs.lemmas.Bool.{false≢true}
 use Rattle.flash_pages.specs.declared.bank.Bank.{Bank}
 use Rattle.flash_pages.specs.Append.{IsTornRow, HasRowsOrOneMore, LeavesTornRow, KeepsRows}
 use Rattle.flash_pages.specs.Bank.{bank_bytes}
 use Rattle.flash_pages.specs.Bytes.{DiffersIn}
-use Rattle.flash_pages.specs.Flash.{FlashState, IsFlash, IsSettled, MayLeaveOnly, LeavesOnly, AddsOnly, GoesOn, Reads, Changes, Restarts, Touches, Throughout}
-use Rattle.flash_pages.proofs.Touched.{at_some, from_each, known, is_known, GoesOn-refl, GoesOn-trans, LeavesOnly-trans, Touches-from_changes}
+use Rattle.flash_pages.specs.Flash.{FlashState, IsFlash, IsSettled, MayLeaveOnly, LeavesOnly}
+use Rattle.flash_pages.specs.Flash.{AddsOnly, GoesOn, Reads, Changes, Restarts, Touches, Throughout}
+use Rattle.flash_pages.proofs.Touched.{at_some, from_each, known, is_known, GoesOn-refl}
+use Rattle.flash_pages.proofs.Touched.{GoesOn-trans, LeavesOnly-trans, Touches-from_changes}
 
 -- what reads return is one of the contents that a restart may leave
 pub MayLeaveOnly-bytes : (blocks : ℕ) (s : FlashState) (P : List ℕ → Type 0) → IsFlash blocks s

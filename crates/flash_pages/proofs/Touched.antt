@@ -1,8 +1,11 @@
 -- How a run of calls on a flash goes on.
-use Rattle.std.proofs.Common.{◌≡◌, ◌⊎◌, inl, inr, ⊎_elim, ℕ, ◌+◌, ◌*◌, ◌≤◌, IsTrue, List, length, Option, Some, None, IsSome, IfSome, Result, refl, sym, ◌∙◌, subst, arith}
+use Rattle.std.proofs.Common.{◌≡◌, ◌⊎◌, inl, inr, ⊎_elim, ℕ, ◌+◌, ◌*◌, ◌≤◌, IsTrue, List, length}
+use Rattle.std.proofs.Common.{Option, Some, None, IsSome, IfSome, Result, refl, sym, ◌∙◌, subst}
+use Rattle.std.proofs.Common.{arith}
 use Rattle.std.proofs.lemmas.Bool.{false≢true}
 use Rattle.flash_pages.specs.Bytes.{DiffersIn}
-use Rattle.flash_pages.specs.Flash.{FlashState, block_len, IsFlash, GoesOn, LeavesOnly, AddsOnly, Changes, Touches}
+use Rattle.flash_pages.specs.Flash.{FlashState, block_len, IsFlash, GoesOn, LeavesOnly, AddsOnly}
+use Rattle.flash_pages.specs.Flash.{Changes, Touches}
 use Rattle.flash_pages.proofs.Patches.{DiffersIn-refl, DiffersIn-trans, DiffersIn-wider}
 
 -- what holds where something is known holds of what is known

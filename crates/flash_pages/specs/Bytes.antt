@@ -1,5 +1,6 @@
 -- Lists of bytes, as a flash holds them.
-use Rattle.std.specs.Prelude.{◌≡◌, ◌⊎◌, ℕ, ◌+◌, ◌%◌, ◌≤◌, ◌==◌, if◌then◌else◌, List, ◌++◌, length, take, drop, replicate, map, slice_index}
+use Rattle.std.specs.Prelude.{◌≡◌, ◌⊎◌, ℕ, ◌+◌, ◌%◌, ◌≤◌, ◌==◌, if◌then◌else◌, List, ◌++◌, length}
+use Rattle.std.specs.Prelude.{take, drop, replicate, map, slice_index}
 use Rattle.std.specs.List.{range_with_len}
 
 -- n bytes of FF, as an erased flash reads

@@ -2,7 +2,8 @@
 --
 -- Moments are numbers. Between two calls there is one image, which is what reads return. Inside a
 -- call there is each image that a power cut at that moment may leave.
-use Rattle.std.specs.Prelude.{◌≡◌, ◌⊎◌, ◌↔◌, ℕ, ◌+◌, ◌*◌, ◌%◌, ◌<◌, ◌≤◌, Bool, IsTrue, List, length, Option, Some, IsSome, IfSome, Result, is_ok}
+use Rattle.std.specs.Prelude.{◌≡◌, ◌⊎◌, ◌↔◌, ℕ, ◌+◌, ◌*◌, ◌%◌, ◌<◌, ◌≤◌, Bool, IsTrue, List, length}
+use Rattle.std.specs.Prelude.{Option, Some, IsSome, IfSome, Result, is_ok}
 use Rattle.port_io.specs.Faults.{NeverFalls}
 use Rattle.port_io.specs.declared.source.Failed.{Failed}
 use Rattle.flash_pages.specs.Bytes.{patch, DiffersIn}

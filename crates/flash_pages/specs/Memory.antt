@@ -1,5 +1,6 @@
 -- What contracts see of a flash in memory.
-use Rattle.std.specs.Prelude.{◌≡◌, ◌↔◌, ℕ, false, IsTrue, ◌&&◌, nat_lt, if◌then◌else◌, List, Result, is_ok}
+use Rattle.std.specs.Prelude.{◌≡◌, ◌↔◌, ℕ, false, IsTrue, ◌&&◌, nat_lt, if◌then◌else◌, List, Result}
+use Rattle.std.specs.Prelude.{is_ok}
 use Rattle.flash_pages.specs.declared.memory.MemoryFlash.{MemoryFlash}
 use Rattle.flash_pages.specs.declared.plan.FlashPlan.{FlashPlan}
 use Rattle.flash_pages.specs.Flash.{FlashState, IsFresh, IsSettled}

@@ -1,9 +1,12 @@
 -- A flash in memory is a flash. These lemmas stand here because the clause that names the last one
 -- can name no other place of this crate.
-use Rattle.std.proofs.Common.{◌≡◌, ◌⊎◌, inl, inr, ⊎_elim, ℕ, suc, ◌*◌, ◌≤◌, Bool, true, false, IsTrue, if◌then◌else◌, List, [], ◌∷◌, length, Option, Some, None, refl, sym, ◌∙◌, ap}
+use Rattle.std.proofs.Common.{◌≡◌, ◌⊎◌, inl, inr, ⊎_elim, ℕ, suc, ◌*◌, ◌≤◌, Bool, true, false}
+use Rattle.std.proofs.Common.{IsTrue, if◌then◌else◌, List, [], ◌∷◌, length, Option, Some, None}
+use Rattle.std.proofs.Common.{refl, sym, ◌∙◌, ap}
 use Rattle.std.proofs.Math.Nat.{le_refl, le_trans, le-suc, not-suc-le_self}
 use Rattle.flash_pages.specs.Flash.{block_len, card_blocks, IsFlash}
-use Rattle.flash_pages.specs.Past.{Call, Write, Restarted, content, last_ok, Since, Past, memory_state}
+use Rattle.flash_pages.specs.Past.{Call, Write, Restarted, content, last_ok, Since, Past}
+use Rattle.flash_pages.specs.Past.{memory_state}
 
 last_ok_bound : (ok : Bool) (n m : ℕ) → m ≤ n → (if ok then suc n else m) ≤ suc n
 last_ok_bound true n m le = le_refl (suc n)

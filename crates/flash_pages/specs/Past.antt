@@ -1,5 +1,6 @@
 -- The calls that a flash in memory keeps, the newest first, and the images that follow from them.
-use Rattle.std.specs.Prelude.{◌≡◌, ◌⊎◌, ℕ, suc, ◌≤◌, Bool, false, IsTrue, ◌&&◌, nat_lt, if◌then◌else◌, List, [], ◌∷◌, length, Option, Some, None}
+use Rattle.std.specs.Prelude.{◌≡◌, ◌⊎◌, ℕ, suc, ◌≤◌, Bool, false, IsTrue, ◌&&◌, nat_lt}
+use Rattle.std.specs.Prelude.{if◌then◌else◌, List, [], ◌∷◌, length, Option, Some, None}
 use Rattle.flash_pages.specs.Bytes.{patch, DiffersIn}
 use Rattle.flash_pages.specs.Flash.{FlashState}
 

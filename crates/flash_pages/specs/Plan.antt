@@ -1,5 +1,6 @@
 -- Which calls of a flash in memory fail.
-use Rattle.std.specs.Prelude.{ℕ, Bool, true, false, ◌==◌, ◌||◌, not, if◌then◌else◌, List, Option, Some, None}
+use Rattle.std.specs.Prelude.{ℕ, Bool, true, false, ◌==◌, ◌||◌, not, if◌then◌else◌, List, Option}
+use Rattle.std.specs.Prelude.{Some, None}
 use Rattle.std.specs.List.{list_any}
 use Rattle.port_io.specs.Faults.{one_more}
 use Rattle.flash_pages.specs.declared.plan.Outcome.{Outcome}

@@ -1,6 +1,7 @@
 -- Rows: a gate, four bytes of length, and a body. A row is open where its gate is 00, and the rows
 -- of a bank end at the first gate that isn't.
-use Rattle.std.specs.Prelude.{◌≡◌, ◌≢◌, ◌↔◌, ℕ, ◌+◌, ◌^◌, ◌<◌, ◌≤◌, ⊤, List, [], ◌∷◌, ◌++◌, length, take, drop}
+use Rattle.std.specs.Prelude.{◌≡◌, ◌≢◌, ◌↔◌, ℕ, ◌+◌, ◌^◌, ◌<◌, ◌≤◌, ⊤, List, [], ◌∷◌, ◌++◌, length}
+use Rattle.std.specs.Prelude.{take, drop}
 use Rattle.std.specs.Int.{to_be_bytes, w32}
 use Rattle.flash_pages.specs.declared.row.RowAt.{RowAt}
 use Rattle.flash_pages.specs.declared.row.RowAt.TheVariants.{Open, End, Overrun}

@@ -1,5 +1,6 @@
 -- A shelf that serves one name: the places of all names.
-use Rattle.std.specs.Prelude.{ℕ, ◌^◌, ◌-◌, List, Bool, true, false, Option, None, is_none, if◌then◌else◌}
+use Rattle.std.specs.Prelude.{ℕ, ◌^◌, ◌-◌, List, Bool, true, false, Option, None, is_none}
+use Rattle.std.specs.Prelude.{if◌then◌else◌}
 use Rattle.std.specs.Str.{bytes_eq}
 use Rattle.flash_pages.specs.Shelf.{ShelfPlace}
 

@@ -1,6 +1,7 @@
 -- The switch row: the first block of a store. It names the live bank by how many of its bytes were
 -- programmed to 00.
-use Rattle.std.specs.Prelude.{◌≡◌, ◌≢◌, ℕ, ◌+◌, ◌-◌, ◌%◌, ◌<◌, ◌≤◌, ◌==◌, List, length, count_by, slice_index, Option, Some, None}
+use Rattle.std.specs.Prelude.{◌≡◌, ◌≢◌, ℕ, ◌+◌, ◌-◌, ◌%◌, ◌<◌, ◌≤◌, ◌==◌, List, length, count_by}
+use Rattle.std.specs.Prelude.{slice_index, Option, Some, None}
 use Rattle.flash_pages.specs.Bytes.{DiffersIn}
 
 -- the number of 00 bytes modulo 2

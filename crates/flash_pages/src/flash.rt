@@ -1,7 +1,8 @@
 ghost use Rattle.std.specs.Prelude.{◌≡◌, ◌*◌, ◌<◌, length, IfSome, OnOk};
 ghost use Rattle.port_io.specs.Faults.{FailsOnlyWhereRose, one_more};
 ghost use Rattle.flash_pages.specs.Bytes.{blank, part, IsErased};
-ghost use Rattle.flash_pages.specs.Flash.{FlashState, block_len, card_blocks, IsFlash, IsRange, IsPiece, Reads, Changes, Restarts};
+ghost use Rattle.flash_pages.specs.Flash.{FlashState, block_len, card_blocks, IsFlash, IsRange};
+ghost use Rattle.flash_pages.specs.Flash.{IsPiece, Reads, Changes, Restarts};
 
 use port_io::Failed;
 

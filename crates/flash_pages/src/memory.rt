@@ -1,11 +1,14 @@
-ghost use Rattle.std.specs.Prelude.{◌≡◌, ◌*◌, ◌<◌, ◌+◌, ℕ, List, length, IfOk, OnOk, OnErr, is_ok, IsOk, IsTrue, false};
+ghost use Rattle.std.specs.Prelude.{◌≡◌, ◌*◌, ◌<◌, ◌+◌, ℕ, List, length, IfOk, OnOk, OnErr, is_ok};
+ghost use Rattle.std.specs.Prelude.{IsOk, IsTrue, false};
 ghost use Rattle.port_io.specs.Faults.{FailsOnlyWhereRose, NeverFalls, one_more};
 ghost use Rattle.flash_pages.specs.Bytes.{blank, part, IsErased};
-ghost use Rattle.flash_pages.specs.Flash.{block_len, card_blocks, IsRange, IsPiece, Reads, Changes, Restarts};
+ghost use Rattle.flash_pages.specs.Flash.{block_len, card_blocks, IsRange, IsPiece, Reads, Changes};
+ghost use Rattle.flash_pages.specs.Flash.{Restarts};
 ghost use Rattle.flash_pages.specs.Left.{left_by, with_left};
 ghost use Rattle.flash_pages.specs.Past.{content, after_call, Since, Write};
 ghost use Rattle.flash_pages.specs.MemoryLaw.{IsFlash-memory};
-ghost use Rattle.flash_pages.specs.Plan.{next_outcome, is_done, after_change, is_read, after_read, after_restart};
+ghost use Rattle.flash_pages.specs.Plan.{next_outcome, is_done, after_change, is_read, after_read};
+ghost use Rattle.flash_pages.specs.Plan.{after_restart};
 
 use crate::fills::{erased_bytes, put, tear};
 use crate::history::{CallRecord, Kept};
@@ -123,7 +126,8 @@ impl MemoryFlash {
 }
 
 impl Flash for MemoryFlash {
-    ghost use Rattle.flash_pages.specs.Memory.{state_of, plan_of, bytes_of, torn_of, room_of, last_ok_of, RecordsCall};
+    ghost use Rattle.flash_pages.specs.Memory.{state_of, plan_of, bytes_of, torn_of, room_of};
+    ghost use Rattle.flash_pages.specs.Memory.{last_ok_of, RecordsCall};
 
     ghost state = { state_of };
 

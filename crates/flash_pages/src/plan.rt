@@ -1,6 +1,7 @@
 ghost use Rattle.std.specs.Prelude.{◌≡◌};
 ghost use Rattle.port_io.specs.Faults.{NeverFalls};
-ghost use Rattle.flash_pages.specs.Plan.{first_plan, is_named, next_outcome, after_change, is_read, after_read, after_restart};
+ghost use Rattle.flash_pages.specs.Plan.{first_plan, is_named, next_outcome, after_change, is_read};
+ghost use Rattle.flash_pages.specs.Plan.{after_read, after_restart};
 
 use std::marker::Model;
 

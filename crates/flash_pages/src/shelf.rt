@@ -1,6 +1,7 @@
 ghost use Rattle.std.specs.Prelude.{◌≡◌, ℕ, List, true, false, IfOk, OnErr};
 ghost use Rattle.port_io.specs.Faults.{FailsOnlyWhereRose};
-ghost use Rattle.flash_pages.specs.Shelf.{ShelfPlace, LeavesOtherNames, IsTaken, IsLeft, given_back};
+ghost use Rattle.flash_pages.specs.Shelf.{ShelfPlace, LeavesOtherNames, IsTaken, IsLeft};
+ghost use Rattle.flash_pages.specs.Shelf.{given_back};
 
 use crate::Flash;
 use port_io::Failed;

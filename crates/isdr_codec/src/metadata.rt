@@ -1,7 +1,9 @@
 //! Reading the metadata of a load.
 ghost use Rattle.std.specs.Prelude.{◌≡◌, ◌&&◌, nat_le, option_map};
 ghost use Rattle.ber_tlv.specs.Walk.{object_of};
-ghost use Rattle.isdr_codec.specs.Metadata.{address_in, are_printable, class_where, head_in, metadata_of, note_target_in, note_target_of, policy_of, policy_where, targets_in, targets_where};
+ghost use Rattle.isdr_codec.specs.Metadata.{address_in, are_printable, class_where, head_in};
+ghost use Rattle.isdr_codec.specs.Metadata.{metadata_of, note_target_in, note_target_of, policy_of};
+ghost use Rattle.isdr_codec.specs.Metadata.{policy_where, targets_in, targets_where};
 
 use crate::fields::{field_in, first_object, needed_in, whole_object};
 use crate::values::{bit_1, bit_2, bits_in, of_length, operations_in, text_in};

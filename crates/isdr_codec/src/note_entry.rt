@@ -1,7 +1,8 @@
 //! The notifications in the reply to ListNotification.
 ghost use Rattle.std.specs.Prelude.{◌≡◌, ◌+◌, ◌*◌, ◌≤◌, ◌++◌, IfOk, OnOk, length, vec_len};
 ghost use Rattle.std.specs.List.{flat_map};
-ghost use Rattle.isdr_codec.specs.NoteEntry.{integer_bytes, note_entry, note_fields, operation_string};
+ghost use Rattle.isdr_codec.specs.NoteEntry.{integer_bytes, note_entry, note_fields};
+ghost use Rattle.isdr_codec.specs.NoteEntry.{operation_string};
 
 use crate::NoMemory;
 use crate::profile_entry::is_asked;

@@ -1,9 +1,11 @@
 //! The profiles in the reply to GetProfilesInfo.
-ghost use Rattle.std.specs.Prelude.{◌≡◌, ◌+◌, ◌*◌, ◌^◌, ◌≤◌, ◌<◌, [], ◌∷◌, ◌++◌, IfOk, OnOk, length, vec_len};
+ghost use Rattle.std.specs.Prelude.{◌≡◌, ◌+◌, ◌*◌, ◌^◌, ◌≤◌, ◌<◌, [], ◌∷◌, ◌++◌, IfOk, OnOk};
+ghost use Rattle.std.specs.Prelude.{length, vec_len};
 ghost use Rattle.std.specs.List.{flat_map};
 ghost use Rattle.ber_tlv.specs.Tag.{IsTag};
 ghost use Rattle.isdr_codec.specs.Profile.{aid_of};
-ghost use Rattle.isdr_codec.specs.ProfileEntry.{field_where, is_asked, nickname_field, port_field, profile_entry, profile_fields, state_byte};
+ghost use Rattle.isdr_codec.specs.ProfileEntry.{field_where, is_asked, nickname_field, port_field};
+ghost use Rattle.isdr_codec.specs.ProfileEntry.{profile_entry, profile_fields, state_byte};
 
 use crate::NoMemory;
 use crate::profile::aid_of;

@@ -1,6 +1,8 @@
 //! GetProfilesInfo, and the tags of the fields that it asks for.
-ghost use Rattle.std.specs.Prelude.{◌≡◌, ◌≢◌, ◌∷◌, ◌<◌, [], None, MatchOption, IfSome, ◌≤◌, length, option_map};
-ghost use Rattle.isdr_codec.specs.ProfilesInfo.{bit_of_tag, fields_asked, fields_where, has_tag, profiles_info_in, tags_in};
+ghost use Rattle.std.specs.Prelude.{◌≡◌, ◌≢◌, ◌∷◌, ◌<◌, [], None, MatchOption, IfSome, ◌≤◌, length};
+ghost use Rattle.std.specs.Prelude.{option_map};
+ghost use Rattle.isdr_codec.specs.ProfilesInfo.{bit_of_tag, fields_asked, fields_where, has_tag};
+ghost use Rattle.isdr_codec.specs.ProfilesInfo.{profiles_info_in, tags_in};
 
 use crate::Request;
 use crate::fields::field_in;

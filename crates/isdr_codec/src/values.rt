@@ -1,7 +1,8 @@
 //! What the values of fields say.
 ghost use Rattle.std.specs.Prelude.{◌≡◌, ◌≤◌, ◌+◌, ◌*◌, ◌<◌, ◌^◌, length, IfSome};
 ghost use Rattle.std.specs.Str.{is_utf8};
-ghost use Rattle.isdr_codec.specs.Values.{bit_0, bit_1, bit_2, bit_3, bits_in, flag_in, number_in, of_length, operations_in, text_in};
+ghost use Rattle.isdr_codec.specs.Values.{bit_0, bit_1, bit_2, bit_3, bits_in, flag_in, number_in};
+ghost use Rattle.isdr_codec.specs.Values.{of_length, operations_in, text_in};
 
 use crate::fields::sole;
 use plain_lists::ShortList;

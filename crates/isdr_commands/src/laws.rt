@@ -1,10 +1,12 @@
-ghost use Rattle.std.specs.Prelude.{◌≡◌, ◌≢◌, ℕ, Bool, true, false, List, [], Option, None, Some, Ok, Contains};
+ghost use Rattle.std.specs.Prelude.{◌≡◌, ◌≢◌, ℕ, Bool, true, false, List, [], Option, None, Some};
+ghost use Rattle.std.specs.Prelude.{Ok, Contains};
 ghost use Rattle.std.specs.List.{AllByRecursion};
 ghost use Rattle.file_rows.specs.Content.{IsValid};
 ghost use Rattle.isdr_codec.specs.declared.request.Request.{Request};
 ghost use Rattle.isdr_codec.specs.declared.request.Who.{Who};
 ghost use Rattle.isdr_commands.specs.Installation.{install_refusal};
-ghost use Rattle.isdr_commands.specs.Laws.{Displaces, IsAsked, IsCarriedOut, LeavesProfile, NamesProfile, Resets};
+ghost use Rattle.isdr_commands.specs.Laws.{Displaces, IsAsked, IsCarriedOut, LeavesProfile};
+ghost use Rattle.isdr_commands.specs.Laws.{NamesProfile, Resets};
 ghost use Rattle.isdr_commands.specs.MemoryReset.{is_reset};
 ghost use Rattle.isdr_commands.specs.Profiles.{keeps_enabled, profile_named};
 ghost use Rattle.isdr_commands.specs.Request.{managed};

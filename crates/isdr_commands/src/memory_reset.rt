@@ -1,7 +1,9 @@
 ghost use Rattle.std.specs.Prelude.{◌≡◌, ◌≤◌, length};
 ghost use Rattle.std.specs.List.{list_any};
 ghost use Rattle.isdr_commands.specs.Profiles.{is_busy};
-ghost use Rattle.isdr_commands.specs.MemoryReset.{freed_from, is_reset, number_leaving, memory_reset, numbers_reset, resetting, resetting_all};
+ghost use Rattle.isdr_commands.specs.MemoryReset.{freed_from, is_reset, number_leaving};
+ghost use Rattle.isdr_commands.specs.MemoryReset.{memory_reset, numbers_reset, resetting};
+ghost use Rattle.isdr_commands.specs.MemoryReset.{resetting_all};
 ghost use Rattle.record_codec.specs.Gone.{is_among};
 
 use crate::ascending::ascending;

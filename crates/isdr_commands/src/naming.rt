@@ -1,7 +1,9 @@
 // The profiles that requests name, and those on ports.
 ghost use Rattle.std.specs.Prelude.{◌≡◌, ◌≤◌, None, Some, IfNone, IfSome};
 ghost use Rattle.std.specs.Str.{bytes_eq};
-ghost use Rattle.isdr_commands.specs.Profiles.{head_on, is_busy, is_kept, is_identified, keeps_enabled, keeps_held, lacks_room, number_on, profile_named};
+ghost use Rattle.isdr_commands.specs.Profiles.{head_on, is_busy, is_kept, is_identified};
+ghost use Rattle.isdr_commands.specs.Profiles.{keeps_enabled, keeps_held, lacks_room, number_on};
+ghost use Rattle.isdr_commands.specs.Profiles.{profile_named};
 ghost use Rattle.record_codec.specs.Noted.{count_where};
 
 use isdr_codec::{Who, aid_of};

@@ -11,7 +11,9 @@ use Rattle.uicc_channels.specs.Session.{channel_at}
 use Rattle.uicc_channels.specs.Shape.{has_body, has_le_alone}
 use Rattle.uicc_channels.specs.declared.session.Refresh.TheVariants.{Announced, Fetched, Quiet}
 use Rattle.uicc_channels.specs.declared.session.Session.{Session}
-use Rattle.lsi_refresh.proofs.FormLemmas.{RefusesByOther, fetch_refusal-none, fetch_refusal-other, refusal_by-none, refusal_by-other, response_refusal-none, response_refusal-other}
+use Rattle.lsi_refresh.proofs.FormLemmas.{RefusesByOther, fetch_refusal-none, fetch_refusal-other}
+use Rattle.lsi_refresh.proofs.FormLemmas.{refusal_by-none, refusal_by-other, response_refusal-none}
+use Rattle.lsi_refresh.proofs.FormLemmas.{response_refusal-other}
 use Rattle.lsi_refresh.proofs.OutcomeLemmas.{IsOther, announced-other, isn't_ok}
 use Rattle.lsi_refresh.specs.Announcement.{announced}
 use Rattle.lsi_refresh.specs.Fetch.{fetch_refusal, fetch_row}

@@ -1,6 +1,7 @@
 -- Logical secure interfaces, the ports of a card: how many there are, and the reset of one
 -- (ETSI TS 102 221, MANAGE LSI).
-use Rattle.std.specs.Prelude.{ℕ, Bool, true, false, ◌==◌, ◌&&◌, nat_lt, if◌then◌else◌, List, [], ◌∷◌, length, Option, Some, None, is_some, Result, Ok, Err}
+use Rattle.std.specs.Prelude.{ℕ, Bool, true, false, ◌==◌, ◌&&◌, nat_lt, if◌then◌else◌, List, []}
+use Rattle.std.specs.Prelude.{◌∷◌, length, Option, Some, None, is_some, Result, Ok, Err}
 use Rattle.apdu_codec.specs.Command.{Apdu}
 use Rattle.apdu_codec.specs.declared.commands.Class.{Class}
 use Rattle.apdu_codec.specs.declared.commands.Class.TheVariants.{Standard, Special}

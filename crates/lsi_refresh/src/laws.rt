@@ -14,7 +14,8 @@ ghost use Rattle.lsi_refresh.specs.TerminalResponse.{terminal_response_row};
 ghost use Rattle.uicc_channels.specs.CommandOutcome.{CommandOutcome, refused};
 ghost use Rattle.uicc_channels.specs.CommandRow.{decided};
 ghost use Rattle.uicc_channels.specs.Session.{Suits};
-ghost use Rattle.uicc_channels.specs.declared.session.Refresh.TheVariants.{Announced, Fetched, Quiet};
+ghost use Rattle.uicc_channels.specs.declared.session.Refresh.TheVariants.{Announced, Fetched};
+ghost use Rattle.uicc_channels.specs.declared.session.Refresh.TheVariants.{Quiet};
 ghost use Rattle.uicc_channels.specs.declared.session.Session.{Session};
 
 /// The command that FETCH gives is a REFRESH (ETSI TS 102 223): a proactive command with two data

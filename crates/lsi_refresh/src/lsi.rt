@@ -1,12 +1,14 @@
 //! MANAGE LSI: the number of a card's ports, and the reset of one.
 ghost use Rattle.std.specs.Prelude.{◌≡◌, None, Some, MatchResult};
 ghost use Rattle.apdu_codec.specs.Command.{apdu_of};
-ghost use Rattle.lsi_refresh.specs.Lsi.{lsi_asked, count_body, form_refusal_of, has_class_80, lsi_of};
+ghost use Rattle.lsi_refresh.specs.Lsi.{lsi_asked, count_body, form_refusal_of, has_class_80};
+ghost use Rattle.lsi_refresh.specs.Lsi.{lsi_of};
 
 use apdu_codec::{Class, Command, Sw};
 use uicc_channels::{require, require_le};
 
-/// What a MANAGE LSI asks for (ETSI TS 102 221). The logical secure interfaces are the card's ports.
+/// What a MANAGE LSI asks for (ETSI TS 102 221). The logical secure interfaces are the card's
+/// ports.
 #[derive(Clone, Copy, Debug, PartialEq, Eq)]
 pub enum Lsi {
     /// How many ports the card has.
@@ -57,10 +59,10 @@ fn require_lengths(command: &Command, ports: u8, lsi: Lsi) -> Result<(), Sw>
 
 /// What a MANAGE LSI asks for on a card with so many ports (ETSI TS 102 221).
 ///
-/// P1 and P2 00 ask for the number of ports, with an Le of 00 or 03; P1 01 resets the port P2, which
-/// is below the number of ports, whatever its Le. A class byte other than `80` is `6E00`, other P1
-/// and P2 are `6A86`, a body or no Le where one is needed `6700`, another Le `6C03`, in this order.
-/// It takes no memory.
+/// P1 and P2 00 ask for the number of ports, with an Le of 00 or 03; P1 01 resets the port P2,
+/// which is below the number of ports, whatever its Le. A class byte other than `80` is `6E00`,
+/// other P1 and P2 are `6A86`, a body or no Le where one is needed `6700`, another Le `6C03`, in
+/// this order. It takes no memory.
 pub fn read_lsi(command: &Command, ports: u8) -> Result<Lsi, Sw>
     ensures { result ≡ lsi_of (apdu_of command.now) ports }
 {

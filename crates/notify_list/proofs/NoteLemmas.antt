@@ -1,5 +1,7 @@
 -- Notifications in the order of their numbers.
-use Rattle.std.proofs.Common.{◌≡◌, ◌⊎◌, ◌↔◌, inl, inr, ⊎_elim, drop, ℕ, zero, suc, ◌+◌, ◌<◌, Bool, true, false, not, nat_eq, cond, List, [], ◌∷◌, ◌++◌, length, filter, get_or, refl, sym, ◌∙◌, ap, subst, arith, eq-eqb}
+use Rattle.std.proofs.Common.{◌≡◌, ◌⊎◌, ◌↔◌, inl, inr, ⊎_elim, drop, ℕ, zero, suc, ◌+◌, ◌<◌, Bool}
+use Rattle.std.proofs.Common.{true, false, not, nat_eq, cond, List, [], ◌∷◌, ◌++◌, length, filter}
+use Rattle.std.proofs.Common.{get_or, refl, sym, ◌∙◌, ap, subst, arith, eq-eqb}
 use Rattle.std.proofs.lemmas.Bool.{false≢true}
 use Rattle.std.proofs.lemmas.List.{drop_more}
 use Rattle.std.specs.List.{Any, AllByRecursion}

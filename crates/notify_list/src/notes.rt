@@ -1,4 +1,5 @@
-ghost use Rattle.std.specs.Prelude.{◌≡◌, ◌≤◌, ◌+◌, ◌↔◌, [], ◌∷◌, ◌++◌, length, IfOk, IsTrue, Any, filter, not, ◌==◌, vec_capacity};
+ghost use Rattle.std.specs.Prelude.{◌≡◌, ◌≤◌, ◌+◌, ◌↔◌, [], ◌∷◌, ◌++◌, length, IfOk, IsTrue, Any};
+ghost use Rattle.std.specs.Prelude.{filter, not, ◌==◌, vec_capacity};
 ghost use Rattle.notify_list.specs.Notes.{HasNoteRoom, IsPending, with_note, without};
 
 use crate::{Address, Iccid, NoMemory, Note, Operation};

@@ -1,11 +1,13 @@
 -- Bytes begin with a head, or a reader refuses them.
-use Rattle.std.proofs.Common.{◌≡◌, ℕ, ◌+◌, ◌*◌, ◌<◌, ◌≤◌, ◌%◌, List, [], ◌∷◌, ◌++◌, refl, sym, ◌∙◌, ap, subst, ◌⊎◌, ⊎_elim, inl, inr, arith, append_assoc}
+use Rattle.std.proofs.Common.{◌≡◌, ℕ, ◌+◌, ◌*◌, ◌<◌, ◌≤◌, ◌%◌, List, [], ◌∷◌, ◌++◌, refl, sym, ◌∙◌}
+use Rattle.std.proofs.Common.{ap, subst, ◌⊎◌, ⊎_elim, inl, inr, arith, append_assoc}
 use Rattle.std.proofs.lemmas.Bool.{cases_eq, cases_lt}
 use Rattle.ber_tlv.specs.declared.fault.TlvFault.{TlvFault}
 use Rattle.ber_tlv.specs.declared.fault.TlvFault.TheVariants.{Short, BadTag, BadLength}
 use Rattle.ber_tlv.specs.Tag.{SpellsTag, HasBadTag}
 use Rattle.ber_tlv.specs.Length.{SpellsLength}
-use Rattle.ber_tlv.specs.Parts.{BeginsBadly, BeginsWithTag, BeginsWithLength, RefusesTag, RefusesLength}
+use Rattle.ber_tlv.specs.Parts.{BeginsBadly, BeginsWithTag, BeginsWithLength, RefusesTag}
+use Rattle.ber_tlv.specs.Parts.{RefusesLength}
 use Rattle.ber_tlv.specs.Head.{BeginsWithHead, RefusesHead}
 use Rattle.ber_tlv.proofs.Heads.{head_refused_at_tag, head_refused_at_length}
 

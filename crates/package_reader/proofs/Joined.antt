@@ -1,5 +1,6 @@
 -- The bytes of parts are taken from those that came, in order.
-use Rattle.std.proofs.Common.{◌≡◌, ℕ, ◌+◌, List, [], ◌∷◌, ◌++◌, length, sym, ◌∙◌, ap, arith, append_assoc, append-nil, length-append}
+use Rattle.std.proofs.Common.{◌≡◌, ℕ, ◌+◌, List, [], ◌∷◌, ◌++◌, length, sym, ◌∙◌, ap, arith}
+use Rattle.std.proofs.Common.{append_assoc, append-nil, length-append}
 use Rattle.package_reader.specs.ReaderState.{ReaderState, fed}
 use Rattle.package_reader.specs.Part.{HandsOut}
 use Rattle.package_reader.specs.Turn.{Turn, GoesBy, pieces_of, part_bytes_of}

@@ -1,12 +1,15 @@
 -- No two parts can come next in one state.
-use Rattle.std.proofs.Common.{◌≡◌, ℕ, zero, suc, ◌+◌, ◌-◌, ◌≤◌, List, [], ◌∷◌, ◌++◌, length, take, Option, Some, None, refl, sym, ◌∙◌, ap, subst, ⊎_elim, arith, length-append}
+use Rattle.std.proofs.Common.{◌≡◌, ℕ, zero, suc, ◌+◌, ◌-◌, ◌≤◌, List, [], ◌∷◌, ◌++◌, length, take}
+use Rattle.std.proofs.Common.{Option, Some, None, refl, sym, ◌∙◌, ap, subst, ⊎_elim, arith}
+use Rattle.std.proofs.Common.{length-append}
 use Rattle.std.specs.Prelude.{slice_get}
 use Rattle.ber_tlv.specs.Head.{BeginsWithHead}
 use Rattle.ber_tlv.specs.declared.fault.TlvFault.TheVariants.{Short, BadTag, BadLength}
 use Rattle.ber_tlv.proofs.Heads.{same_head, not_refused_head, one_head_refusal}
 use Rattle.package_reader.specs.ReaderState.{ReaderState, IsAtClose}
 use Rattle.package_reader.specs.NextHead.{FitsIn, SpellsNone, MayBecomeHead, left_in, up_to_end}
-use Rattle.package_reader.specs.Part.{HandsOut, HandsOutHead, HandsOutBytes, HandsOutClose, HandsOutMore, HandsOutBad}
+use Rattle.package_reader.specs.Part.{HandsOut, HandsOutHead, HandsOutBytes, HandsOutClose}
+use Rattle.package_reader.specs.Part.{HandsOutMore, HandsOutBad}
 use Rattle.package_reader.specs.declared.part.Part.{Part}
 use Rattle.package_reader.specs.declared.part.Part.TheVariants.{Head, Bytes, Close, More, Bad}
 use Rattle.package_reader.proofs.Ends.{last_is}

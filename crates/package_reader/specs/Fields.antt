@@ -1,5 +1,6 @@
 -- What the fields of a reader stand for.
-use Rattle.std.specs.Prelude.{◌+◌, ◌-◌, ◌*◌, ◌<◌, ◌≤◌, ◌^◌, drop, take, length, vec_len, vec_capacity}
+use Rattle.std.specs.Prelude.{◌+◌, ◌-◌, ◌*◌, ◌<◌, ◌≤◌, ◌^◌, drop, take, length, vec_len}
+use Rattle.std.specs.Prelude.{vec_capacity}
 use Rattle.package_reader.specs.ReaderState.{ReaderState}
 use Rattle.package_reader.specs.declared.elements.Elements.TheInside.{Inside}
 

@@ -1,4 +1,5 @@
-ghost use Rattle.std.specs.Prelude.{◌≡◌, ◌≢◌, ◌+◌, ◌<◌, ◌≤◌, ◌^◌, ◌↔◌, ◌==◌, ◌/◌, ◌%◌, [], ◌∷◌, ◌++◌, length, drop, Some, IsTrue, OnOk, OnErr};
+ghost use Rattle.std.specs.Prelude.{◌≡◌, ◌≢◌, ◌+◌, ◌<◌, ◌≤◌, ◌^◌, ◌↔◌, ◌==◌, ◌/◌, ◌%◌, [], ◌∷◌};
+ghost use Rattle.std.specs.Prelude.{◌++◌, length, drop, Some, IsTrue, OnOk, OnErr};
 ghost use Rattle.ber_tlv.specs.Head.{BeginsWithHead};
 ghost use Rattle.package_reader.specs.NextHead.{FitsIn, left_in};
 ghost use Rattle.package_reader.specs.ReaderState.{opens, IsAtClose, fresh_reader, fed};
@@ -31,7 +32,8 @@ impl Model for Elements {
 
     ghost Value = { ReaderState };
 
-    ghost use Rattle.std.specs.Prelude.{◌≡◌, ◌+◌, ◌-◌, ◌*◌, ◌<◌, ◌≤◌, ◌^◌, drop, take, length, vec_len, vec_capacity};
+    ghost use Rattle.std.specs.Prelude.{◌≡◌, ◌+◌, ◌-◌, ◌*◌, ◌<◌, ◌≤◌, ◌^◌, drop, take, length};
+    ghost use Rattle.std.specs.Prelude.{vec_len, vec_capacity};
     ghost use Rattle.package_reader.specs.Fields.{reader_state_of, AreFields};
 
     ghost view = { reader_state_of };

@@ -1,4 +1,6 @@
-use Rattle.std.proofs.Common.{◌≡◌, ◌≢◌, ◌≤◌, ℕ, Bool, true, false, cond, not, ◌&&◌, List, [], ◌∷◌, length, take, Option, Some, None, IfSome, refl, sym, ◌∙◌, ap, subst, arith}
+use Rattle.std.proofs.Common.{◌≡◌, ◌≢◌, ◌≤◌, ℕ, Bool, true, false, cond, not, ◌&&◌, List, [], ◌∷◌}
+use Rattle.std.proofs.Common.{length, take, Option, Some, None, IfSome, refl, sym, ◌∙◌, ap, subst}
+use Rattle.std.proofs.Common.{arith}
 use Rattle.std.proofs.Math.Nat.{le_refl, le_trans}
 use Rattle.std.proofs.lemmas.Bool.{eq-eqb}
 use Rattle.std.specs.Prelude.{◌==◌}
@@ -6,9 +8,11 @@ use Rattle.std.specs.Str.{bytes_eq}
 use Rattle.file_rows.proofs.ChangeLemmas.{same_path-other}
 use Rattle.file_rows.specs.declared.pin.PinRow.{PinRow}
 use Rattle.file_rows.specs.declared.pin.Puk.{Puk}
-use Rattle.pin_state.specs.PinCommand.{AllWrongAt, IsNoRightUnblock, IsWrongAt, NoneUnblocks, PinCommand, after, outcome}
+use Rattle.pin_state.specs.PinCommand.{AllWrongAt, IsNoRightUnblock, IsWrongAt, NoneUnblocks}
+use Rattle.pin_state.specs.PinCommand.{PinCommand, after, outcome}
 use Rattle.pin_state.specs.PinCommand.PinCommand.{Verify, Change, Disable, Enable, Unblock}
-use Rattle.pin_state.specs.PinOutcome.{PinOutcome, at_enabled, presented, unblock, unblock_with, unblocked, wrong}
+use Rattle.pin_state.specs.PinOutcome.{PinOutcome, at_enabled, presented, unblock, unblock_with}
+use Rattle.pin_state.specs.PinOutcome.{unblocked, wrong}
 
 -- the value of a PIN's PUK, where it has one
 abbrev puk_value : Option Puk → Option (List ℕ)

@@ -1,5 +1,6 @@
 -- A PIN command that isn't accepted changes at most the tries left.
-use Rattle.std.proofs.Common.{◌≡◌, ◌≢◌, ℕ, ◌-◌, Bool, true, false, cond, not, ◌&&◌, List, length, take, drop, Option, Some, None, refl, sym, subst}
+use Rattle.std.proofs.Common.{◌≡◌, ◌≢◌, ℕ, ◌-◌, Bool, true, false, cond, not, ◌&&◌, List, length}
+use Rattle.std.proofs.Common.{take, drop, Option, Some, None, refl, sym, subst}
 use Rattle.std.specs.Prelude.{◌==◌}
 use Rattle.std.specs.Str.{bytes_eq}
 use Rattle.apdu_codec.specs.declared.status.TheConstants.Sw.{OK}
@@ -7,7 +8,8 @@ use Rattle.file_rows.specs.declared.pin.PinRow.{PinRow}
 use Rattle.file_rows.specs.declared.pin.Puk.{Puk}
 use Rattle.pin_state.specs.PinCommand.{PinCommand, outcome}
 use Rattle.pin_state.specs.PinCommand.PinCommand.{Verify, Change, Disable, Enable, Unblock}
-use Rattle.pin_state.specs.PinOutcome.{PinOutcome, at_enabled, presented, unblock_with, unblocked, wrong}
+use Rattle.pin_state.specs.PinOutcome.{PinOutcome, at_enabled, presented, unblock_with, unblocked}
+use Rattle.pin_state.specs.PinOutcome.{wrong}
 use Rattle.pin_state.specs.Tries.{KeepsAllButTries, KeepsPuk}
 
 -- another status word than 9000 leaves all but the tries

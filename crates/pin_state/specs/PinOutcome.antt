@@ -1,9 +1,11 @@
 -- What a PIN command comes to at one PIN (ETSI TS 102 221).
-use Rattle.std.specs.Prelude.{ℕ, ◌-◌, Bool, true, false, not, ◌==◌, ◌&&◌, if◌then◌else◌, List, length, take, drop, Option, Some, None}
+use Rattle.std.specs.Prelude.{ℕ, ◌-◌, Bool, true, false, not, ◌==◌, ◌&&◌, if◌then◌else◌, List}
+use Rattle.std.specs.Prelude.{length, take, drop, Option, Some, None}
 use Rattle.std.specs.Str.{bytes_eq}
 use Rattle.apdu_codec.specs.Sw.{tries_left}
 use Rattle.apdu_codec.specs.declared.status.Sw.{Sw}
-use Rattle.apdu_codec.specs.declared.status.TheConstants.Sw.{DATA_BLOCKED, DATA_NOT_FOUND, OK, PIN_BLOCKED, WRONG_LENGTH}
+use Rattle.apdu_codec.specs.declared.status.TheConstants.Sw.{DATA_BLOCKED, DATA_NOT_FOUND, OK}
+use Rattle.apdu_codec.specs.declared.status.TheConstants.Sw.{PIN_BLOCKED, WRONG_LENGTH}
 use Rattle.file_rows.specs.declared.pin.PinRow.{PinRow}
 use Rattle.file_rows.specs.declared.pin.Puk.{Puk}
 

@@ -1,8 +1,13 @@
-ghost use Rattle.std.specs.Prelude.{◌≡◌, ◌≢◌, ◌<◌, ◌≤◌, ◌*◌, length, false, true, None, Some, IfSome};
+ghost use Rattle.std.specs.Prelude.{◌≡◌, ◌≢◌, ◌<◌, ◌≤◌, ◌*◌, length, false, true, None, Some};
+ghost use Rattle.std.specs.Prelude.{IfSome};
 ghost use Rattle.file_rows.specs.PinRow.{AreTries, IsPin};
 ghost use Rattle.file_rows.specs.declared.pin.PinRow.{PinRow};
 ghost use Rattle.pin_state.specs.SamePin.{decision_of};
-ghost use Rattle.pin_state.specs.PinOutcome.{asked, at_enabled, change as changed_pin, disable as disabled_pin, enable as enabled_pin, presented, unblock as unblocked_pin, unblock_with, unblocked, unchanged, verify as verified_pin, with_all_tries, wrong};
+ghost use Rattle.pin_state.specs.PinOutcome.{asked, at_enabled, change as changed_pin};
+ghost use Rattle.pin_state.specs.PinOutcome.{disable as disabled_pin, enable as enabled_pin};
+ghost use Rattle.pin_state.specs.PinOutcome.{presented, unblock as unblocked_pin, unblock_with};
+ghost use Rattle.pin_state.specs.PinOutcome.{unblocked, unchanged, verify as verified_pin};
+ghost use Rattle.pin_state.specs.PinOutcome.{with_all_tries, wrong};
 
 use crate::value::{VALUE_LEN, is_right};
 use apdu_codec::Sw;

@@ -1,4 +1,5 @@
-use Rattle.std.specs.Prelude.{ℕ, Bool, false, ◌≡◌, ◌≢◌, ◌<◌, ◌==◌, if◌then◌else◌, map, length, slice_get, slice_set, Option, Some, None}
+use Rattle.std.specs.Prelude.{ℕ, Bool, false, ◌≡◌, ◌≢◌, ◌<◌, ◌==◌, if◌then◌else◌, map, length}
+use Rattle.std.specs.Prelude.{slice_get, slice_set, Option, Some, None}
 use Rattle.port_table.specs.declared.port_mode.PortMode.{PortMode}
 use Rattle.port_table.specs.declared.port_mode.PortMode.TheVariants.{A1, A2, B}
 use Rattle.port_table.specs.declared.ports.Ports.{Ports}

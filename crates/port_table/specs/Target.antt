@@ -1,6 +1,8 @@
 -- The port on which a profile is enabled (GSMA SGP.22, ES10c.EnableProfile with Multiple Enabled
 -- Profiles).
-use Rattle.std.specs.Prelude.{ℕ, suc, ◌≡◌, ◌≢◌, ◌<◌, ◌≤◌, Bool, not, ◌==◌, ◌&&◌, nat_lt, List, drop, length, slice_get, position, Option, Some, None, is_some, option_map, Result, Ok, Err, if◌then◌else◌}
+use Rattle.std.specs.Prelude.{ℕ, suc, ◌≡◌, ◌≢◌, ◌<◌, ◌≤◌, Bool, not, ◌==◌, ◌&&◌, nat_lt, List, drop}
+use Rattle.std.specs.Prelude.{length, slice_get, position, Option, Some, None, is_some, option_map}
+use Rattle.std.specs.Prelude.{Result, Ok, Err, if◌then◌else◌}
 use Rattle.std.specs.Option.{ok_or}
 use Rattle.port_table.specs.declared.port_mode.PortMode.{PortMode}
 use Rattle.port_table.specs.declared.port_mode.PortMode.TheVariants.{A1, A2, B}

@@ -1,5 +1,7 @@
-ghost use Rattle.std.specs.Prelude.{◌≡◌, ◌≢◌, ◌<◌, ◌≤◌, ◌↔◌, ℕ, length, Option, Some, None, Ok, Err};
-ghost use Rattle.port_table.specs.Ports.{HasProfiles, KeepsPortRule, MayBind, StandsNowhere, StandsOn, bound, unbound};
+ghost use Rattle.std.specs.Prelude.{◌≡◌, ◌≢◌, ◌<◌, ◌≤◌, ◌↔◌, ℕ, length, Option, Some, None, Ok};
+ghost use Rattle.std.specs.Prelude.{Err};
+ghost use Rattle.port_table.specs.Ports.{HasProfiles, KeepsPortRule, MayBind, StandsNowhere};
+ghost use Rattle.port_table.specs.Ports.{StandsOn, bound, unbound};
 ghost use Rattle.port_table.specs.PortOf.{port_of};
 ghost use Rattle.port_table.specs.Target.{HasNoProfile, IsLowestFree, target_port};
 ghost use Rattle.port_table.specs.declared.port_mode.PortMode.TheVariants.{A1, A2, B};

@@ -1,6 +1,7 @@
 //! The port on which a profile is enabled.
 ghost use Rattle.std.specs.Prelude.{◌≡◌, ◌≤◌, ◌<◌, IfSome, length, position};
-ghost use Rattle.port_table.specs.Target.{fault_number, is_free_place, lowest_free, target_port, usable};
+ghost use Rattle.port_table.specs.Target.{fault_number, is_free_place, lowest_free, target_port};
+ghost use Rattle.port_table.specs.Target.{usable};
 
 use crate::{PortMode, Ports};
 use thiserror::Error;

@@ -17,7 +17,9 @@ use Rattle.uicc_channels.specs.ManageChannel.{manage_channel_row}
 use Rattle.uicc_channels.specs.Needs.{refusals}
 use Rattle.uicc_channels.specs.Session.{channel_at, open_channel}
 use Rattle.uicc_channels.specs.declared.chan.Chan.{Chan}
-use Rattle.uicc_data.proofs.ClosedLemmas.{channel-increase, channel-read_binary, channel-read_record, channel-search_record, channel-update_binary, channel-update_record}
+use Rattle.uicc_data.proofs.ClosedLemmas.{channel-increase, channel-read_binary}
+use Rattle.uicc_data.proofs.ClosedLemmas.{channel-read_record, channel-search_record}
+use Rattle.uicc_data.proofs.ClosedLemmas.{channel-update_binary, channel-update_record}
 use Rattle.uicc_data.specs.Binary.{read_binary_row, update_binary_row}
 use Rattle.uicc_data.specs.Increase.{increase_row}
 use Rattle.uicc_data.specs.Record.{read_record_row, update_record_row}
@@ -27,7 +29,11 @@ use Rattle.uicc_select.specs.Status.{status_row}
 use Rattle.profile_card.specs.Card.{Card, allowed_at, isdr_here}
 use Rattle.profile_card.specs.Commands.{command_row, instruction_row, is_known_at, unknown_row}
 use Rattle.profile_card.specs.PinCommands.{pin_row}
-use Rattle.profile_card.specs.declared.pin_commands.PinInstruction.TheVariants.{Change as ChangePin, Disable as DisablePin, Enable as EnablePin, Unblock as UnblockPin, Verify as VerifyPin}
+use Rattle.profile_card.specs.declared.pin_commands.PinInstruction.TheVariants.{Change as ChangePin}
+use Rattle.profile_card.specs.declared.pin_commands.PinInstruction.TheVariants.{Disable as DisablePin}
+use Rattle.profile_card.specs.declared.pin_commands.PinInstruction.TheVariants.{Enable as EnablePin}
+use Rattle.profile_card.specs.declared.pin_commands.PinInstruction.TheVariants.{Unblock as UnblockPin}
+use Rattle.profile_card.specs.declared.pin_commands.PinInstruction.TheVariants.{Verify as VerifyPin}
 
 module _ (card : Card) (c : Apdu) (closed : is_some (channel_at card.session c.channel) ≡ false) where
   abbrev IsRefused : CommandRow → Type 0

@@ -1,4 +1,5 @@
-use Rattle.std.proofs.Common.{◌≡◌, Bool, true, false, cond, sym, subst, ap, ◌∙◌, Option, Some, None, IfSome}
+use Rattle.std.proofs.Common.{◌≡◌, Bool, true, false, cond, sym, subst, ap, ◌∙◌, Option, Some, None}
+use Rattle.std.proofs.Common.{IfSome}
 use Rattle.std.specs.Prelude.{◌==◌}
 use Rattle.apdu_codec.specs.Answer.{status_alone}
 use Rattle.apdu_codec.specs.Command.{Apdu}
@@ -33,10 +34,15 @@ use Rattle.uicc_select.specs.Select.{select_row}
 use Rattle.uicc_select.specs.Status.{status_row}
 use Rattle.profile_card.proofs.PinCommandLemmas.{MayFollow-pin_row}
 use Rattle.profile_card.specs.Card.{Card, IsSound, MayFollow, allowed_at, isdr_here}
-use Rattle.profile_card.specs.Commands.{command_row, decision, instruction_row, is_known_at, unknown_row}
+use Rattle.profile_card.specs.Commands.{command_row, decision, instruction_row, is_known_at}
+use Rattle.profile_card.specs.Commands.{unknown_row}
 use Rattle.profile_card.specs.PinCommands.{pin_row}
 use Rattle.profile_card.specs.declared.pin_commands.PinInstruction.{PinInstruction}
-use Rattle.profile_card.specs.declared.pin_commands.PinInstruction.TheVariants.{Change as ChangePin, Disable as DisablePin, Enable as EnablePin, Unblock as UnblockPin, Verify as VerifyPin}
+use Rattle.profile_card.specs.declared.pin_commands.PinInstruction.TheVariants.{Change as ChangePin}
+use Rattle.profile_card.specs.declared.pin_commands.PinInstruction.TheVariants.{Disable as DisablePin}
+use Rattle.profile_card.specs.declared.pin_commands.PinInstruction.TheVariants.{Enable as EnablePin}
+use Rattle.profile_card.specs.declared.pin_commands.PinInstruction.TheVariants.{Unblock as UnblockPin}
+use Rattle.profile_card.specs.declared.pin_commands.PinInstruction.TheVariants.{Verify as VerifyPin}
 
 module _ (card : Card) (sound : IsSound card) where
   -- what changes no content may follow where its session suits the card

@@ -1,5 +1,6 @@
 -- What the guard of a card finds.
-use Rattle.std.proofs.Common.{◌≡◌, ◌≢◌, ℕ, Bool, false, cond, List, [], ◌∷◌, map, sym, subst, ap, ◌∙◌, arith, ⊎_elim, Option, Some, None, Contains}
+use Rattle.std.proofs.Common.{◌≡◌, ◌≢◌, ℕ, Bool, false, cond, List, [], ◌∷◌, map, sym, subst, ap}
+use Rattle.std.proofs.Common.{◌∙◌, arith, ⊎_elim, Option, Some, None, Contains}
 use Rattle.std.proofs.Math.Path.{fun_ext}
 use Rattle.std.specs.List.{AllByRecursion}
 use Rattle.std.specs.Prelude.{option_and_then, option_map, unwrap_or}

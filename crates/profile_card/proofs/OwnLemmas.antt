@@ -1,4 +1,5 @@
-use Rattle.std.proofs.Common.{◌≡◌, Bool, true, false, cond, ◌&&◌, ◌||◌, ◌⊎◌, inl, inr, refl, sym, ap, ◌∙◌}
+use Rattle.std.proofs.Common.{◌≡◌, Bool, true, false, cond, ◌&&◌, ◌||◌, ◌⊎◌, inl, inr, refl, sym}
+use Rattle.std.proofs.Common.{ap, ◌∙◌}
 use Rattle.std.specs.Prelude.{◌==◌, is_some}
 use Rattle.std.proofs.lemmas.Bool.{eqb-true, true≢false}
 use Rattle.apdu_codec.specs.Command.{Apdu}
@@ -9,7 +10,8 @@ use Rattle.uicc_channels.specs.CommandOutcome.{CommandOutcome, refused}
 use Rattle.uicc_channels.specs.CommandRow.{CommandRow, decided}
 use Rattle.uicc_channels.specs.Session.{channel_at, open_channel}
 use Rattle.profile_card.specs.Card.{Card}
-use Rattle.profile_card.specs.Commands.{command_row, decision, instruction_row, is_for_isdr, is_known_at, unknown_row}
+use Rattle.profile_card.specs.Commands.{command_row, decision, instruction_row, is_for_isdr}
+use Rattle.profile_card.specs.Commands.{is_known_at, unknown_row}
 use Rattle.profile_card.specs.Own.{is_common}
 
 both_met : (one other : Bool) → (one && other) ≡ true → (one ≡ true) × (other ≡ true)

@@ -1,5 +1,6 @@
 -- What the PIN commands come to at a card.
-use Rattle.std.proofs.Common.{◌≡◌, ℕ, Bool, true, false, cond, List, [], ◌∷◌, sym, subst, arith, ⊎_elim, Option, Some, None, IfSome, Contains}
+use Rattle.std.proofs.Common.{◌≡◌, ℕ, Bool, true, false, cond, List, [], ◌∷◌, sym, subst, arith}
+use Rattle.std.proofs.Common.{⊎_elim, Option, Some, None, IfSome, Contains}
 use Rattle.std.specs.Prelude.{option_map}
 use Rattle.std.specs.List.{AllByRecursion}
 use Rattle.access_rules.proofs.Finding.{Contains-pin_for}

@@ -1,5 +1,6 @@
 -- What a command changes that isn't accepted.
-use Rattle.std.proofs.Common.{◌≡◌, ℕ, Bool, true, false, cond, Contains, List, Option, Some, None, IfSome, refl, sym, subst, ap, ◌≢◌, ◌∙◌}
+use Rattle.std.proofs.Common.{◌≡◌, ℕ, Bool, true, false, cond, Contains, List, Option, Some, None}
+use Rattle.std.proofs.Common.{IfSome, refl, sym, subst, ap, ◌≢◌, ◌∙◌}
 use Rattle.std.proofs.lemmas.Bool.{eqb-true, true≢false}
 use Rattle.std.specs.Prelude.{◌==◌, option_map}
 use Rattle.apdu_codec.specs.Command.{Apdu}
@@ -32,7 +33,9 @@ use Rattle.uicc_channels.specs.CommandRow.{CommandRow, decided}
 use Rattle.uicc_channels.specs.GetResponse.{get_response_row}
 use Rattle.uicc_channels.specs.ManageChannel.{manage_channel_row}
 use Rattle.uicc_channels.specs.Session.{open_channel}
-use Rattle.uicc_data.proofs.DoneLemmas.{local-increase, local-read_binary, local-read_record, local-search_record, local-update_binary, local-update_record}
+use Rattle.uicc_data.proofs.DoneLemmas.{local-increase, local-read_binary, local-read_record}
+use Rattle.uicc_data.proofs.DoneLemmas.{local-search_record, local-update_binary}
+use Rattle.uicc_data.proofs.DoneLemmas.{local-update_record}
 use Rattle.uicc_data.specs.Binary.{read_binary_row, update_binary_row}
 use Rattle.uicc_data.specs.Increase.{increase_row}
 use Rattle.uicc_data.specs.Record.{read_record_row, update_record_row}
@@ -41,11 +44,17 @@ use Rattle.uicc_select.specs.Select.{select_row}
 use Rattle.uicc_select.specs.Status.{status_row}
 use Rattle.uicc_select.proofs.LocalLemmas.{refused-select, refused-status}
 use Rattle.profile_card.specs.Card.{Card, allowed_at, isdr_here}
-use Rattle.profile_card.specs.Commands.{command_row, decision, instruction_row, is_known_at, unknown_row}
-use Rattle.profile_card.specs.PinCommands.{done_where, is_pin_instruction, pin_command, pin_done, pin_row}
+use Rattle.profile_card.specs.Commands.{command_row, decision, instruction_row, is_known_at}
+use Rattle.profile_card.specs.Commands.{unknown_row}
+use Rattle.profile_card.specs.PinCommands.{done_where, is_pin_instruction, pin_command, pin_done}
+use Rattle.profile_card.specs.PinCommands.{pin_row}
 use Rattle.profile_card.specs.Refused.{ChangesTriesAlone}
 use Rattle.profile_card.specs.declared.pin_commands.PinInstruction.{PinInstruction}
-use Rattle.profile_card.specs.declared.pin_commands.PinInstruction.TheVariants.{Change as ChangePin, Disable as DisablePin, Enable as EnablePin, Unblock as UnblockPin, Verify as VerifyPin}
+use Rattle.profile_card.specs.declared.pin_commands.PinInstruction.TheVariants.{Change as ChangePin}
+use Rattle.profile_card.specs.declared.pin_commands.PinInstruction.TheVariants.{Disable as DisablePin}
+use Rattle.profile_card.specs.declared.pin_commands.PinInstruction.TheVariants.{Enable as EnablePin}
+use Rattle.profile_card.specs.declared.pin_commands.PinInstruction.TheVariants.{Unblock as UnblockPin}
+use Rattle.profile_card.specs.declared.pin_commands.PinInstruction.TheVariants.{Verify as VerifyPin}
 
 -- each of the five is a PIN instruction
 is_pin : (ins n : ℕ) → (ins == n) ≡ true → is_pin_instruction n ≡ true → is_pin_instruction ins ≡ true

@@ -1,11 +1,13 @@
-use Rattle.std.proofs.Common.{◌≡◌, ℕ, inl, inr, List, [], ◌∷◌, ◌++◌, refl, sym, ◌∙◌, ap, subst, Option, Some, None}
+use Rattle.std.proofs.Common.{◌≡◌, ℕ, inl, inr, List, [], ◌∷◌, ◌++◌, refl, sym, ◌∙◌, ap, subst}
+use Rattle.std.proofs.Common.{Option, Some, None}
 use Rattle.apdu_codec.proofs.MeaningLemmas.{Spells-decided, Spells-once}
 use Rattle.apdu_codec.specs.Command.{Apdu, refusal}
 use Rattle.apdu_codec.specs.declared.answers.Answer.{Answer}
 use Rattle.uicc_channels.specs.CommandOutcome.{CommandOutcome, refused}
 use Rattle.profile_card.specs.Card.{Card, card_after}
 use Rattle.profile_card.specs.Commands.{decision}
-use Rattle.profile_card.specs.Step.{Responds, Event, AnswersWith, Outcome, Runs, RunsTo, Steps, StepsAt, carried_out, restarted, silent}
+use Rattle.profile_card.specs.Step.{Responds, Event, AnswersWith, Outcome, Runs, RunsTo, Steps}
+use Rattle.profile_card.specs.Step.{StepsAt, carried_out, restarted, silent}
 use Rattle.profile_card.specs.Step.Event.{Command, Reset, Power, Bound, Unbound}
 
 -- a card has one answer to the same bytes

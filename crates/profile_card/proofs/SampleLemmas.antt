@@ -1,4 +1,5 @@
-use Rattle.std.proofs.Common.{◌≡◌, ◌≢◌, ℕ, List, [], ◌∷◌, length, get_or, inl, inr, refl, ap, lit≤, arith}
+use Rattle.std.proofs.Common.{◌≡◌, ◌≢◌, ℕ, List, [], ◌∷◌, length, get_or, inl, inr, refl, ap, lit≤}
+use Rattle.std.proofs.Common.{arith}
 use Rattle.plain_lists.specs.EachTwo.{EachTwo}
 use Rattle.std.specs.List.{AllByRecursion}
 use Rattle.file_rows.specs.Content.{AreFiles, ArePins, IsValid, heads_of, use_of}

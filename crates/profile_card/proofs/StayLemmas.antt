@@ -1,5 +1,6 @@
 -- What a command leaves of the session.
-use Rattle.std.proofs.Common.{◌≡◌, ◌≢◌, ℕ, Bool, true, false, cond, List, refl, ap, Option, Some, None}
+use Rattle.std.proofs.Common.{◌≡◌, ◌≢◌, ℕ, Bool, true, false, cond, List, refl, ap, Option, Some}
+use Rattle.std.proofs.Common.{None}
 use Rattle.std.proofs.lemmas.Bool.{eqb-true}
 use Rattle.std.specs.Prelude.{◌==◌, slice_index_or}
 use Rattle.apdu_codec.specs.Command.{Apdu}
@@ -20,13 +21,20 @@ use Rattle.uicc_channels.specs.GetResponse.{get_response_row}
 use Rattle.uicc_channels.specs.Session.{channel_at, open_channel}
 use Rattle.uicc_channels.specs.declared.chan.Chan.{Chan}
 use Rattle.uicc_channels.specs.declared.session.Session.{Session}
-use Rattle.uicc_data.proofs.DoneLemmas.{others-increase, others-read_binary, others-read_record, others-search_record, others-update_binary, others-update_record}
+use Rattle.uicc_data.proofs.DoneLemmas.{others-increase, others-read_binary, others-read_record}
+use Rattle.uicc_data.proofs.DoneLemmas.{others-search_record, others-update_binary}
+use Rattle.uicc_data.proofs.DoneLemmas.{others-update_record}
 use Rattle.uicc_select.proofs.LocalLemmas.{stays-select, stays-status}
 use Rattle.profile_card.specs.Card.{Card, allowed_at, isdr_here}
-use Rattle.profile_card.specs.Commands.{command_row, decision, instruction_row, is_known_at, unknown_row}
+use Rattle.profile_card.specs.Commands.{command_row, decision, instruction_row, is_known_at}
+use Rattle.profile_card.specs.Commands.{unknown_row}
 use Rattle.profile_card.specs.PinCommands.{done_where, pin_command, pin_row}
 use Rattle.profile_card.specs.declared.pin_commands.PinInstruction.{PinInstruction}
-use Rattle.profile_card.specs.declared.pin_commands.PinInstruction.TheVariants.{Change as ChangePin, Disable as DisablePin, Enable as EnablePin, Unblock as UnblockPin, Verify as VerifyPin}
+use Rattle.profile_card.specs.declared.pin_commands.PinInstruction.TheVariants.{Change as ChangePin}
+use Rattle.profile_card.specs.declared.pin_commands.PinInstruction.TheVariants.{Disable as DisablePin}
+use Rattle.profile_card.specs.declared.pin_commands.PinInstruction.TheVariants.{Enable as EnablePin}
+use Rattle.profile_card.specs.declared.pin_commands.PinInstruction.TheVariants.{Unblock as UnblockPin}
+use Rattle.profile_card.specs.declared.pin_commands.PinInstruction.TheVariants.{Verify as VerifyPin}
 
 -- a PIN command leaves the channels
 channels-pin : (session : Session) (instruction : PinInstruction) (c : Apdu) (pin : Option PinRow)

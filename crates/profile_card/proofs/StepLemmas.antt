@@ -1,4 +1,5 @@
-use Rattle.std.proofs.Common.{◌≡◌, ℕ, ◌-◌, Bool, false, List, sym, ◌∙◌, ap, subst, Option, Some, None, IfSome, inl, inr}
+use Rattle.std.proofs.Common.{◌≡◌, ℕ, ◌-◌, Bool, false, List, sym, ◌∙◌, ap, subst, Option, Some}
+use Rattle.std.proofs.Common.{None, IfSome, inl, inr}
 use Rattle.std.proofs.lemmas.Nat.Bits.{bit_at-zero}
 use Rattle.std.specs.Prelude.{◌==◌}
 use Rattle.apdu_codec.specs.Command.{Apdu, Spells, refusal}
@@ -14,7 +15,8 @@ use Rattle.uicc_channels.specs.CarriesOut.{content_after}
 use Rattle.profile_card.proofs.FollowLemmas.{MayFollow-decision}
 use Rattle.profile_card.specs.Card.{Card, IsSound, MayFollow, card_after, outcome_at, settled}
 use Rattle.profile_card.specs.Commands.{decision}
-use Rattle.profile_card.specs.Step.{Event, Outcome, Responds, Steps, StepsAt, carried_out, restarted, silent}
+use Rattle.profile_card.specs.Step.{Event, Outcome, Responds, Steps, StepsAt, carried_out}
+use Rattle.profile_card.specs.Step.{restarted, silent}
 use Rattle.profile_card.specs.Step.Event.{Command, Reset, Power, Bound, Unbound}
 
 -- a decision on a command that is carried out is what the card responds

@@ -25,7 +25,9 @@ use Rattle.uicc_select.specs.Select.{select_row}
 use Rattle.uicc_select.specs.Status.{status_row}
 use Rattle.profile_card.specs.Card.{Card, allowed_at, isdr_here}
 use Rattle.profile_card.specs.PinCommands.{pin_row}
-use Rattle.profile_card.specs.declared.pin_commands.PinInstruction.TheVariants.{Change, Disable, Enable, Unblock, Verify}
+use Rattle.profile_card.specs.declared.pin_commands.PinInstruction.TheVariants.{Change, Disable}
+use Rattle.profile_card.specs.declared.pin_commands.PinInstruction.TheVariants.{Enable, Unblock}
+use Rattle.profile_card.specs.declared.pin_commands.PinInstruction.TheVariants.{Verify}
 
 -- an instruction that the card doesn't know
 abbrev pub unknown_row : Session → Apdu → CommandRow

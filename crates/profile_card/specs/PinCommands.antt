@@ -1,5 +1,6 @@
 -- The PIN commands of a card (ETSI TS 102 221, VERIFY PIN to UNBLOCK PIN).
-use Rattle.std.specs.Prelude.{ℕ, Bool, true, false, not, ◌==◌, ◌||◌, List, [], ◌∷◌, length, Option, Some, None, is_some, option_map}
+use Rattle.std.specs.Prelude.{ℕ, Bool, true, false, not, ◌==◌, ◌||◌, List, [], ◌∷◌, length, Option}
+use Rattle.std.specs.Prelude.{Some, None, is_some, option_map}
 use Rattle.access_rules.specs.Met.{pin_for}
 use Rattle.apdu_codec.specs.Answer.{status_alone}
 use Rattle.apdu_codec.specs.Command.{Apdu}
@@ -8,7 +9,9 @@ use Rattle.apdu_codec.specs.declared.status.TheConstants.Sw.{DATA_NOT_FOUND, OK}
 use Rattle.file_rows.specs.declared.change.Change.TheVariants.{PinSet}
 use Rattle.file_rows.specs.declared.pin.PinRow.{PinRow}
 use Rattle.pin_state.specs.PinCommand.{PinCommand, outcome}
-use Rattle.pin_state.specs.PinCommand.PinCommand.{Change as ChangePin, Disable as DisablePin, Enable as EnablePin, Unblock as UnblockPin, Verify as VerifyPin}
+use Rattle.pin_state.specs.PinCommand.PinCommand.{Change as ChangePin, Disable as DisablePin}
+use Rattle.pin_state.specs.PinCommand.PinCommand.{Enable as EnablePin, Unblock as UnblockPin}
+use Rattle.pin_state.specs.PinCommand.PinCommand.{Verify as VerifyPin}
 use Rattle.pin_state.specs.PinOutcome.{PinOutcome}
 use Rattle.pin_state.specs.SamePin.{set_row}
 use Rattle.uicc_channels.specs.CommandOutcome.{CommandOutcome, answering}
@@ -19,7 +22,9 @@ use Rattle.uicc_channels.specs.Verified.{verified_after}
 use Rattle.file_rows.specs.PinRow.{is_verified}
 use Rattle.uicc_channels.specs.declared.session.Session.{Session}
 use Rattle.profile_card.specs.declared.pin_commands.PinInstruction.{PinInstruction}
-use Rattle.profile_card.specs.declared.pin_commands.PinInstruction.TheVariants.{Change, Disable, Enable, Unblock, Verify}
+use Rattle.profile_card.specs.declared.pin_commands.PinInstruction.TheVariants.{Change, Disable}
+use Rattle.profile_card.specs.declared.pin_commands.PinInstruction.TheVariants.{Enable, Unblock}
+use Rattle.profile_card.specs.declared.pin_commands.PinInstruction.TheVariants.{Verify}
 
 abbrev pub pin_command : PinInstruction → List ℕ → PinCommand
 pin_command Verify body = VerifyPin body

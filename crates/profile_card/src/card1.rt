@@ -1,4 +1,5 @@
-ghost use Rattle.std.specs.Prelude.{◌≡◌, ◌<◌, ◌==◌, false, [], List, ℕ, None, Some, IfOk, IfSome, OnOk, OnErr};
+ghost use Rattle.std.specs.Prelude.{◌≡◌, ◌<◌, ◌==◌, false, [], List, ℕ, None, Some, IfOk, IfSome};
+ghost use Rattle.std.specs.Prelude.{OnOk, OnErr};
 ghost use Rattle.apdu_codec.specs.Command.{Apdu, IsCommand, Spells, apdu_of};
 ghost use Rattle.file_rows.specs.Change.{Fits};
 ghost use Rattle.file_rows.specs.Content.{IsValid};
@@ -14,7 +15,8 @@ ghost use Rattle.uicc_tree.specs.Change.{HasRoom};
 ghost use Rattle.uicc_tree.specs.Files.{rows_of};
 ghost use Rattle.profile_card.specs.Card.{MayFollow, allowed_at, isdr_here, outcome_at, settled};
 ghost use Rattle.profile_card.specs.CardState.{HasRoomFor, TakesRoom, card_of, content_of};
-ghost use Rattle.profile_card.specs.Commands.{command_row, decision, instruction_row, is_for_isdr, is_known_at};
+ghost use Rattle.profile_card.specs.Commands.{command_row, decision, instruction_row, is_for_isdr};
+ghost use Rattle.profile_card.specs.Commands.{is_known_at};
 ghost use Rattle.profile_card.specs.PinCommands.{pin_row};
 ghost use Rattle.profile_card.specs.Step.{Steps, silent};
 ghost use Rattle.profile_card.specs.Step.Event.{Bound, Command as CommandBytes, Power, Reset};
@@ -227,9 +229,9 @@ impl Card1 {
     /// DISABLE PIN, ENABLE PIN and UNBLOCK PIN, MANAGE CHANNEL, GET RESPONSE, CREATE FILE, DELETE
     /// FILE, RESIZE FILE, ACTIVATE FILE, DEACTIVATE FILE and TERMINATE EF, TERMINAL PROFILE,
     /// TERMINAL CAPABILITY, FETCH and TERMINAL RESPONSE (ETSI TS 102 221 and TS 102 222); any other
-    /// instruction is answered `6D00`. Where the ISD-R is selected on the channel, SELECT, MANAGE CHANNEL and the
-    /// last four are known alone. An answer that would end in `9000` ends in `910B` where a REFRESH
-    /// waits after the command. It takes no memory, and copies no session.
+    /// instruction is answered `6D00`. Where the ISD-R is selected on the channel, SELECT, MANAGE
+    /// CHANNEL and the last four are known alone. An answer that would end in `9000` ends in `910B`
+    /// where a REFRESH waits after the command. It takes no memory, and copies no session.
     pub fn decide(&self, command: &Command) -> Decided
         requires { IsCommand command.now }
         ensures decision { outcome_at (card_of self.now) result

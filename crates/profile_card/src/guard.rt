@@ -4,7 +4,8 @@
 ghost use Rattle.std.specs.Prelude.{◌≡◌, ◌≤◌, [], length, map, option_copied};
 ghost use Rattle.file_rows.specs.Content.{AreFiles};
 ghost use Rattle.plain_lists.specs.FirstOf.{first_of};
-ghost use Rattle.access_rules.specs.May.{arr_of, enclosing, linear_in, record_at, record_named, rule_directory};
+ghost use Rattle.access_rules.specs.May.{arr_of, enclosing, linear_in, record_at, record_named};
+ghost use Rattle.access_rules.specs.May.{rule_directory};
 ghost use Rattle.access_rules.specs.Met.{allowed, key_directory};
 ghost use Rattle.file_rows.specs.PinRow.{is_verified};
 ghost use Rattle.uicc_tree.specs.Files.{Gives, IsLive, file_of, path_of, rows_of};

@@ -1,4 +1,5 @@
-ghost use Rattle.std.specs.Prelude.{◌≡◌, ◌≢◌, ℕ, ◌<◌, ◌≤◌, ◌^◌, Bool, true, false, List, [], ◌∷◌, Option, Some};
+ghost use Rattle.std.specs.Prelude.{◌≡◌, ◌≢◌, ℕ, ◌<◌, ◌≤◌, ◌^◌, Bool, true, false, List, [], ◌∷◌};
+ghost use Rattle.std.specs.Prelude.{Option, Some};
 ghost use Rattle.apdu_codec.specs.Command.{Apdu};
 ghost use Rattle.apdu_codec.specs.Sw.{bytes_waiting, tries_left, wrong_le};
 ghost use Rattle.apdu_codec.specs.declared.answers.Answer.{Answer};

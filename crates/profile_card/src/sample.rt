@@ -2,7 +2,8 @@
 ghost use Rattle.std.specs.Prelude.{◌≡◌, ◌≤◌, length, IfOk};
 ghost use Rattle.file_rows.specs.Content.{use_of};
 ghost use Rattle.profile_card.specs.CardState.{card_of};
-ghost use Rattle.profile_card.specs.Sample.{sample, sample_card, sample_file, sample_head, sample_pin};
+ghost use Rattle.profile_card.specs.Sample.{sample, sample_card, sample_file, sample_head};
+ghost use Rattle.profile_card.specs.Sample.{sample_pin};
 
 use crate::{Card1, Place};
 use file_rows::{Content, FileHead, FileRow, Kind, Life, Name, NoMemory, Path, PinRow, Rule};

@@ -1,12 +1,14 @@
 -- What a builder answers is what the parts of its bytes come to.
-use Rattle.std.proofs.Common.{◌≡◌, ℕ, Bool, true, false, List, [], ◌∷◌, refl, sym, ◌∙◌, ap, subst, Result, Ok, Err}
+use Rattle.std.proofs.Common.{◌≡◌, ℕ, Bool, true, false, List, [], ◌∷◌, refl, sym, ◌∙◌, ap, subst}
+use Rattle.std.proofs.Common.{Result, Ok, Err}
 use Rattle.std.proofs.lemmas.Bool.{true≢false}
 use Rattle.std.specs.Prelude.{◌↔◌, IfOk, IsTrue}
 use Rattle.file_rows.specs.Content.{IsValid}
 use Rattle.file_rows.specs.declared.content.Content.{Content}
 use Rattle.package_reader.specs.ReaderState.{ReaderState, fed, fresh_reader}
 use Rattle.package_reader.specs.Turn.{GoesBy}
-use Rattle.profile_install.specs.Package.{Answers, IsOutcome, PackageGives, ReadsParts, after_turns, fresh_work, is_used_up, package_outcome, work_outcome}
+use Rattle.profile_install.specs.Package.{Answers, IsOutcome, PackageGives, ReadsParts, after_turns}
+use Rattle.profile_install.specs.Package.{fresh_work, is_used_up, package_outcome, work_outcome}
 use Rattle.profile_install.specs.declared.work.BuildFault.{BuildFault}
 use Rattle.profile_install.specs.declared.work.BuildFault.TheVariants.{Element, OutOfMemory}
 use Rattle.profile_install.specs.declared.work.Refusal.{Refusal}

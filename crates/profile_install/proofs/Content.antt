@@ -1,5 +1,6 @@
 -- Content goes into a file that has room for it.
-use Rattle.std.proofs.Common.{◌≡◌, ℕ, ◌+◌, ◌≤◌, true, false, List, length, refl, sym, ◌∙◌, ap, Option, Some, None, Result, Ok, Err}
+use Rattle.std.proofs.Common.{◌≡◌, ℕ, ◌+◌, ◌≤◌, true, false, List, length, refl, sym, ◌∙◌, ap}
+use Rattle.std.proofs.Common.{Option, Some, None, Result, Ok, Err}
 use Rattle.std.specs.Prelude.{nat_le, slice_set, IsSomeAnd}
 use Rattle.std.proofs.lemmas.Bool.{cond-false, cond-true, false≢true, leb-true}
 use Rattle.file_rows.specs.Change.{with_body, written}

@@ -1,5 +1,6 @@
 -- Each byte string has its parts, and so an answer.
-use Rattle.std.proofs.Common.{◌≡◌, ℕ, zero, suc, ◌≤◌, true, false, List, [], ◌∷◌, refl, ⊎_elim, Result, arith}
+use Rattle.std.proofs.Common.{◌≡◌, ℕ, zero, suc, ◌≤◌, true, false, List, [], ◌∷◌, refl, ⊎_elim}
+use Rattle.std.proofs.Common.{Result, arith}
 use Rattle.std.proofs.lemmas.Bool.{cases_Bool}
 use Rattle.file_rows.specs.declared.content.Content.{Content}
 use Rattle.package_reader.specs.Part.{HandsOut}
@@ -8,7 +9,8 @@ use Rattle.package_reader.specs.Turn.{GoesBy, Turn}
 use Rattle.package_reader.specs.Turn.Turn.{Goes}
 use Rattle.package_reader.specs.declared.part.Part.{Part}
 use Rattle.package_reader.proofs.EachPart.{each_part}
-use Rattle.profile_install.specs.Package.{AllWhole, HasNoPart, PackageGives, after_turns, fresh_work, is_last, is_used_up, work_outcome}
+use Rattle.profile_install.specs.Package.{AllWhole, HasNoPart, PackageGives, after_turns}
+use Rattle.profile_install.specs.Package.{fresh_work, is_last, is_used_up, work_outcome}
 use Rattle.profile_install.specs.declared.work.Refusal.{Refusal}
 use Rattle.profile_install.proofs.Reading.{last_more, left_of, less}
 

@@ -1,5 +1,6 @@
 -- A template's file fits the content to which it is added.
-use Rattle.std.proofs.Common.{◌≡◌, ℕ, ◌+◌, Bool, true, false, cond, ◌&&◌, List, [], ◌∷◌, length, refl, sym, ap, subst, inr, Result, Ok, Err, arith}
+use Rattle.std.proofs.Common.{◌≡◌, ℕ, ◌+◌, Bool, true, false, cond, ◌&&◌, List, [], ◌∷◌, length}
+use Rattle.std.proofs.Common.{refl, sym, ap, subst, inr, Result, Ok, Err, arith}
 use Rattle.std.specs.Prelude.{unwrap_or}
 use Rattle.std.proofs.lemmas.List.Sums.{sum_by-cons}
 use Rattle.file_rows.specs.Change.{Fits, new_file}
@@ -21,7 +22,8 @@ use Rattle.fcp_codec.specs.declared.fcp.RuleRef.TheVariants.{Row as RowOf}
 use Rattle.fcp_codec.proofs.CreationFits.{made_fits}
 use Rattle.file_templates.specs.declared.template_row.Row.{Row}
 use Rattle.profile_install.specs.ElementResult.{then_with}
-use Rattle.profile_install.specs.TemplateFile.{described, described_master, is_kind_kept, is_name_due, made_result, master_with, parameters_of}
+use Rattle.profile_install.specs.TemplateFile.{described, described_master, is_kind_kept}
+use Rattle.profile_install.specs.TemplateFile.{is_name_due, made_result, master_with, parameters_of}
 use Rattle.profile_install.specs.declared.fault.ElementFault.{ElementFault}
 use Rattle.profile_install.specs.declared.fault.ElementFault.TheVariants.{BadParameter}
 

@@ -1,5 +1,7 @@
 -- In front of a refused element stand elements without a fault.
-use Rattle.std.proofs.Common.{◌≡◌, ℕ, ◌+◌, Bool, true, false, cond, ◌==◌, ◌&&◌, List, [], ◌∷◌, ◌++◌, refl, sym, ◌∙◌, ap, subst, ◌⊎◌, ⊎_elim, inl, inr, append_assoc, append-nil, Err}
+use Rattle.std.proofs.Common.{◌≡◌, ℕ, ◌+◌, Bool, true, false, cond, ◌==◌, ◌&&◌, List, [], ◌∷◌, ◌++◌}
+use Rattle.std.proofs.Common.{refl, sym, ◌∙◌, ap, subst, ◌⊎◌, ⊎_elim, inl, inr, append_assoc}
+use Rattle.std.proofs.Common.{append-nil, Err}
 use Rattle.std.proofs.lemmas.Bool.{false≢true, true≢false}
 use Rattle.package_reader.specs.Turn.{Turn}
 use Rattle.package_reader.specs.Turn.Turn.{Comes, Goes}
@@ -7,12 +9,20 @@ use Rattle.package_reader.specs.declared.part.Part.{Part}
 use Rattle.package_reader.specs.declared.part.Part.TheVariants.{Head, Bytes, Close, More, Bad}
 use Rattle.profile_install.specs.ElementResult.{result_number}
 use Rattle.profile_install.specs.FirstFaulty.{HasGoodElements, IsPackageResult}
-use Rattle.profile_install.specs.Package.{AllWhole, AreParts, PackageGives, after_part, after_turns, content_at_end, fresh_work, is_element_due, is_head, is_used_up, package_outcome, refused_at}
+use Rattle.profile_install.specs.Package.{AllWhole, AreParts, PackageGives, after_part, after_turns}
+use Rattle.profile_install.specs.Package.{content_at_end, fresh_work, is_element_due, is_head}
+use Rattle.profile_install.specs.Package.{is_used_up, package_outcome, refused_at}
 use Rattle.profile_install.specs.State.{depth_of, fresh_state}
 use Rattle.profile_install.specs.declared.fault.ElementFault.{ElementFault}
-use Rattle.profile_install.specs.declared.fault.ElementFault.TheVariants.{NoRoom, Malformed, BadParameter, WrongTemplate, WrongVersion}
+use Rattle.profile_install.specs.declared.fault.ElementFault.TheVariants.{NoRoom, Malformed}
+use Rattle.profile_install.specs.declared.fault.ElementFault.TheVariants.{BadParameter}
+use Rattle.profile_install.specs.declared.fault.ElementFault.TheVariants.{WrongTemplate}
+use Rattle.profile_install.specs.declared.fault.ElementFault.TheVariants.{WrongVersion}
 use Rattle.profile_install.specs.declared.state.Spot.{Spot}
-use Rattle.profile_install.specs.declared.state.Spot.TheVariants.{Start, Elements, Ended, Header, Template, File, Descriptor, Lists, Steps, NewFile, Puks, PukEntry, Pins, PinEntry}
+use Rattle.profile_install.specs.declared.state.Spot.TheVariants.{Start, Elements, Ended, Header}
+use Rattle.profile_install.specs.declared.state.Spot.TheVariants.{Template, File, Descriptor, Lists}
+use Rattle.profile_install.specs.declared.state.Spot.TheVariants.{Steps, NewFile, Puks, PukEntry}
+use Rattle.profile_install.specs.declared.state.Spot.TheVariants.{Pins, PinEntry}
 use Rattle.profile_install.specs.declared.state.State.{State}
 use Rattle.profile_install.specs.declared.work.Progress.{Progress}
 use Rattle.profile_install.specs.declared.work.Progress.TheVariants.{Going, Broken, Refused}

@@ -1,5 +1,7 @@
 -- What a package gives is a valid content.
-use Rattle.std.proofs.Common.{◌≡◌, ℕ, ◌+◌, ◌-◌, Bool, true, false, cond, ◌<◌, ◌==◌, ◌||◌, List, [], ◌∷◌, ◌++◌, length, refl, sym, subst, inl, true≢false, arith, Option, Some, None, Result, Ok, Err}
+use Rattle.std.proofs.Common.{◌≡◌, ℕ, ◌+◌, ◌-◌, Bool, true, false, cond, ◌<◌, ◌==◌, ◌||◌, List, []}
+use Rattle.std.proofs.Common.{◌∷◌, ◌++◌, length, refl, sym, subst, inl, true≢false, arith, Option}
+use Rattle.std.proofs.Common.{Some, None, Result, Ok, Err}
 use Rattle.std.specs.Bool.{⊤}
 use Rattle.std.specs.Prelude.{nat_le}
 use Rattle.file_rows.specs.Content.{IsValid}
@@ -11,7 +13,10 @@ use Rattle.package_reader.specs.Turn.{GoesBy, Turn}
 use Rattle.package_reader.specs.Turn.Turn.{Comes, Goes}
 use Rattle.package_reader.specs.declared.part.Part.{Part}
 use Rattle.package_reader.specs.declared.part.Part.TheVariants.{Head, Bytes, Close, More, Bad}
-use Rattle.profile_install.specs.Package.{AllWhole, PackageGives, after_part, after_turns, broken, closed, fresh_work, gathering, going, headed, heading, is_gathering, is_used_up, constructed_begins, progress_after, step_settled, valued, element_with_fault}
+use Rattle.profile_install.specs.Package.{AllWhole, PackageGives, after_part, after_turns, broken}
+use Rattle.profile_install.specs.Package.{closed, fresh_work, gathering, going, headed, heading}
+use Rattle.profile_install.specs.Package.{is_gathering, is_used_up, constructed_begins}
+use Rattle.profile_install.specs.Package.{progress_after, step_settled, valued, element_with_fault}
 use Rattle.profile_install.specs.State.{closed_at, depth_of, fresh_state, opened_at, valued_at}
 use Rattle.profile_install.specs.declared.fault.ElementFault.{ElementFault}
 use Rattle.profile_install.specs.declared.state.Awaited.{Awaited}

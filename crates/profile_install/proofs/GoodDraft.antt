@@ -1,12 +1,15 @@
 -- A draft whose files and PINs are a valid content, and how files and their bytes keep it so.
-use Rattle.std.proofs.Common.{◌≡◌, ◌⊎◌, ℕ, zero, suc, ◌+◌, ◌-◌, ◌≤◌, Bool, true, false, cond, not, ◌==◌, List, [], ◌∷◌, ◌++◌, length, refl, sym, ◌∙◌, ap, subst, inl, inr, ⊎_elim, Option, Some, None, Ok, Err, slice_get, slice_set, arith}
+use Rattle.std.proofs.Common.{◌≡◌, ◌⊎◌, ℕ, zero, suc, ◌+◌, ◌-◌, ◌≤◌, Bool, true, false, cond, not}
+use Rattle.std.proofs.Common.{◌==◌, List, [], ◌∷◌, ◌++◌, length, refl, sym, ◌∙◌, ap, subst, inl}
+use Rattle.std.proofs.Common.{inr, ⊎_elim, Option, Some, None, Ok, Err, slice_get, slice_set, arith}
 use Rattle.std.specs.Prelude.{nat_le}
 use Rattle.std.specs.Bool.{IsTrue}
 use Rattle.std.specs.List.{AllByRecursion, Any}
 use Rattle.std.proofs.lemmas.Bool.{true≢false}
 use Rattle.std.proofs.lemmas.List.Sums.{sum_by-cons}
 use Rattle.file_rows.specs.Change.{Fits, new_file, with_body, written}
-use Rattle.file_rows.specs.Content.{AreFiles, ArePins, AreTree, IsFileSystem, IsValid, heads_of, use_of}
+use Rattle.file_rows.specs.Content.{AreFiles, ArePins, AreTree, IsFileSystem, IsValid, heads_of}
+use Rattle.file_rows.specs.Content.{use_of}
 use Rattle.file_rows.specs.FileHead.{IsFile, HasForm, ShareName, ShareSfi, holds_files}
 use Rattle.file_rows.specs.PinRow.{AreTries}
 use Rattle.file_rows.specs.declared.change.Change.TheVariants.{FileAdd}

@@ -1,5 +1,6 @@
 -- Values and ends of TLVs keep the draft of a package good.
-use Rattle.std.proofs.Common.{◌≡◌, ℕ, ◌≤◌, Bool, true, cond, ◌==◌, List, [], ◌∷◌, subst, ⊎_elim, Option, Result, Ok, Err}
+use Rattle.std.proofs.Common.{◌≡◌, ℕ, ◌≤◌, Bool, true, cond, ◌==◌, List, [], ◌∷◌, subst, ⊎_elim}
+use Rattle.std.proofs.Common.{Option, Result, Ok, Err}
 use Rattle.std.specs.Str.{bytes_eq}
 use Rattle.file_rows.specs.declared.pin.PinRow.{PinRow}
 use Rattle.file_rows.proofs.ListLemmas.{each_append}
@@ -11,8 +12,11 @@ use Rattle.profile_install.specs.Header.{is_header_whole, with_header_field}
 use Rattle.profile_install.specs.Management.{with_file_made, with_step}
 use Rattle.profile_install.specs.PinEntry.{pin_told, with_pin_field}
 use Rattle.profile_install.specs.PukEntry.{puk_told, with_puk_field}
-use Rattle.profile_install.specs.State.{at, closed_at, file_closed, file_valued, in_parts, with_managed, template_valued, valued_at, with_new_pin, with_new_puk}
-use Rattle.profile_install.specs.Template.{at_file_end, at_list_end, directory_of, left_out, with_descriptor, with_part, with_template}
+use Rattle.profile_install.specs.State.{at, closed_at, file_closed, file_valued, in_parts}
+use Rattle.profile_install.specs.State.{with_managed, template_valued, valued_at, with_new_pin}
+use Rattle.profile_install.specs.State.{with_new_puk}
+use Rattle.profile_install.specs.Template.{at_file_end, at_list_end, directory_of, left_out}
+use Rattle.profile_install.specs.Template.{with_descriptor, with_part, with_template}
 use Rattle.profile_install.specs.declared.draft.Draft.{Draft}
 use Rattle.profile_install.specs.declared.draft.Filled.{Filled}
 use Rattle.profile_install.specs.declared.fault.ElementFault.{ElementFault}
@@ -25,15 +29,21 @@ use Rattle.profile_install.specs.declared.puk_entry.PukFields.{PukFields}
 use Rattle.profile_install.specs.declared.state.ListKind.TheVariants.{StepList, PukList, PinList}
 use Rattle.profile_install.specs.declared.state.ListKind.{ListKind}
 use Rattle.profile_install.specs.declared.state.Spot.{Spot}
-use Rattle.profile_install.specs.declared.state.Spot.TheVariants.{Start, Elements, Ended, Header, Template, File, Descriptor, Lists, Steps, NewFile, Puks, PukEntry, Pins, PinEntry}
+use Rattle.profile_install.specs.declared.state.Spot.TheVariants.{Start, Elements, Ended, Header}
+use Rattle.profile_install.specs.declared.state.Spot.TheVariants.{Template, File, Descriptor, Lists}
+use Rattle.profile_install.specs.declared.state.Spot.TheVariants.{Steps, NewFile, Puks, PukEntry}
+use Rattle.profile_install.specs.declared.state.Spot.TheVariants.{Pins, PinEntry}
 use Rattle.profile_install.specs.declared.state.State.{State}
 use Rattle.profile_install.specs.declared.template.FileParts.{FileParts}
 use Rattle.profile_install.specs.declared.template.FileParts.TheVariants.{Made}
 use Rattle.profile_install.specs.declared.template.TemplateList.{TemplateList}
 use Rattle.profile_install.proofs.GoodDraft.{Goes, IsPuk, held}
 use Rattle.profile_install.proofs.GoodPins.{AreBytes, pin_field, pin_good, puk_field, puk_is}
-use Rattle.profile_install.proofs.GoodRows.{descriptor_made, file_end_made, left_out_ready, list_made, part_made}
-use Rattle.profile_install.proofs.GoodState.{IsAmong, IsAt, IsGoodAt, IsGoodState, IsInTemplate, IsUsimThere, stays, template_stays, to_draft, to_spot, usim_stays}
+use Rattle.profile_install.proofs.GoodRows.{descriptor_made, file_end_made, left_out_ready}
+use Rattle.profile_install.proofs.GoodRows.{list_made, part_made}
+use Rattle.profile_install.proofs.GoodState.{IsAmong, IsAt, IsGoodAt, IsGoodState, IsInTemplate}
+use Rattle.profile_install.proofs.GoodState.{IsUsimThere, stays, template_stays, to_draft, to_spot}
+use Rattle.profile_install.proofs.GoodState.{usim_stays}
 use Rattle.profile_install.proofs.GoodSteps.{StepGoes, file_goes, step_goes}
 use Rattle.profile_install.proofs.GoodTemplate.{IsReady}
 use Rattle.profile_install.proofs.Oks.{if_ok, not_ok, ok_is, then_ok}

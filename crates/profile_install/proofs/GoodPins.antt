@@ -1,5 +1,8 @@
 -- PINs keep a draft good.
-use Rattle.std.proofs.Common.{◌≡◌, ◌≢◌, ◌⊎◌, ℕ, ◌+◌, ◌/◌, ◌%◌, ◌<◌, ◌≤◌, Bool, true, false, cond, not, ◌==◌, ◌&&◌, ◌||◌, List, [], ◌∷◌, ◌++◌, length, find, refl, sym, ◌∙◌, ap, subst, inl, inr, ⊎_elim, Option, Some, None, Result, Ok, Err, IfSome, arith}
+use Rattle.std.proofs.Common.{◌≡◌, ◌≢◌, ◌⊎◌, ℕ, ◌+◌, ◌/◌, ◌%◌, ◌<◌, ◌≤◌, Bool, true, false, cond}
+use Rattle.std.proofs.Common.{not, ◌==◌, ◌&&◌, ◌||◌, List, [], ◌∷◌, ◌++◌, length, find, refl, sym}
+use Rattle.std.proofs.Common.{◌∙◌, ap, subst, inl, inr, ⊎_elim, Option, Some, None, Result, Ok, Err}
+use Rattle.std.proofs.Common.{IfSome, arith}
 use Rattle.std.specs.Prelude.{nat_le, unwrap_or}
 use Rattle.std.specs.Bool.{IsTrue}
 use Rattle.std.specs.List.{AllByRecursion, list_any}
@@ -21,12 +24,16 @@ use Rattle.file_rows.proofs.ListLemmas.{any_none, any_of_map, each_append, two_p
 use Rattle.fcp_codec.specs.Creation.{HoldsFilesAt}
 use Rattle.fcp_codec.proofs.CreationLemmas.{le_of, two_hold}
 use Rattle.profile_install.specs.ElementResult.{then_with}
-use Rattle.profile_install.specs.PinEntry.{home_of, is_global_key, is_key_taken, is_local_key, key_at, pin_key, pin_of, pin_told, pin_with, puk_found, puk_named, with_pin_field, with_pin_option}
+use Rattle.profile_install.specs.PinEntry.{home_of, is_global_key, is_key_taken, is_local_key}
+use Rattle.profile_install.specs.PinEntry.{key_at, pin_key, pin_of, pin_told, pin_with, puk_found}
+use Rattle.profile_install.specs.PinEntry.{puk_named, with_pin_field, with_pin_option}
 use Rattle.profile_install.specs.PukEntry.{puk_key, puk_of, puk_told, with_puk_field}
-use Rattle.profile_install.specs.Values.{are_tries, eight_bytes, kept, one_byte, tries_if_good, tries_in, tries_of}
+use Rattle.profile_install.specs.Values.{are_tries, eight_bytes, kept, one_byte, tries_if_good}
+use Rattle.profile_install.specs.Values.{tries_in, tries_of}
 use Rattle.profile_install.specs.declared.draft.Draft.{Draft}
 use Rattle.profile_install.specs.declared.fault.ElementFault.{ElementFault}
-use Rattle.profile_install.specs.declared.fault.ElementFault.TheVariants.{NoRoom, Malformed, BadParameter}
+use Rattle.profile_install.specs.declared.fault.ElementFault.TheVariants.{NoRoom, Malformed}
+use Rattle.profile_install.specs.declared.fault.ElementFault.TheVariants.{BadParameter}
 use Rattle.profile_install.specs.declared.pin_entry.PinFields.{PinFields}
 use Rattle.profile_install.specs.declared.puk_entry.NamedPuk.{NamedPuk}
 use Rattle.profile_install.specs.declared.puk_entry.PukFields.{PukFields}

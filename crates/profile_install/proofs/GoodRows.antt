@@ -1,5 +1,7 @@
 -- The files of a template, one after another, keep a draft good.
-use Rattle.std.proofs.Common.{◌≡◌, ◌≢◌, ◌⊎◌, ℕ, zero, suc, ◌+◌, ◌-◌, ◌≤◌, Bool, true, false, cond, not, ◌==◌, ◌&&◌, ◌||◌, List, [], ◌∷◌, length, refl, sym, ◌∙◌, ap, subst, inl, inr, ⊎_elim, Option, Some, None, Ok, Err, arith}
+use Rattle.std.proofs.Common.{◌≡◌, ◌≢◌, ◌⊎◌, ℕ, zero, suc, ◌+◌, ◌-◌, ◌≤◌, Bool, true, false, cond}
+use Rattle.std.proofs.Common.{not, ◌==◌, ◌&&◌, ◌||◌, List, [], ◌∷◌, length, refl, sym, ◌∙◌, ap}
+use Rattle.std.proofs.Common.{subst, inl, inr, ⊎_elim, Option, Some, None, Ok, Err, arith}
 use Rattle.std.specs.Prelude.{nat_lt}
 use Rattle.std.proofs.lemmas.Bool.{true≢false}
 use Rattle.std.proofs.lemmas.Bool.Decides.{Decides-eqb, nat_tests}
@@ -9,9 +11,14 @@ use Rattle.fcp_codec.specs.Creation.{HoldsFilesAt}
 use Rattle.fcp_codec.specs.declared.fcp.Fcp.{Fcp}
 use Rattle.file_templates.specs.Templates.{row_at, template_rows}
 use Rattle.file_templates.specs.declared.template_row.Row.{Row}
-use Rattle.profile_install.specs.Draft.{filled, head_of_row, last_file, skip_count, skipped, with_new_file}
+use Rattle.profile_install.specs.Draft.{filled, head_of_row, last_file, skip_count, skipped}
+use Rattle.profile_install.specs.Draft.{with_new_file}
 use Rattle.profile_install.specs.ElementResult.{then_with}
-use Rattle.profile_install.specs.Template.{at_file_end, at_list_end, at_position, directory_at, directory_of, is_master_at, just_made, left_out, made_before, no_fields, present, row_given, skipped_in, with_descriptor, with_not_given, with_part, with_present, with_row, with_row_at, with_rows}
+use Rattle.profile_install.specs.Template.{at_file_end, at_list_end, at_position, directory_at}
+use Rattle.profile_install.specs.Template.{directory_of, is_master_at, just_made, left_out}
+use Rattle.profile_install.specs.Template.{made_before, no_fields, present, row_given, skipped_in}
+use Rattle.profile_install.specs.Template.{with_descriptor, with_not_given, with_part, with_present}
+use Rattle.profile_install.specs.Template.{with_row, with_row_at, with_rows}
 use Rattle.profile_install.specs.declared.draft.Draft.{Draft}
 use Rattle.profile_install.specs.declared.draft.Filled.{Filled}
 use Rattle.profile_install.specs.declared.fault.ElementFault.TheVariants.{Malformed, BadParameter}
@@ -19,7 +26,9 @@ use Rattle.profile_install.specs.declared.template.FileParts.{FileParts}
 use Rattle.profile_install.specs.declared.template.FileParts.TheVariants.{Awaited, LeftOut, Made}
 use Rattle.profile_install.specs.declared.template.TemplateList.{TemplateList}
 use Rattle.profile_install.proofs.GoodDraft.{Goes, IsGood, fill_goes, goes_nowhere, goes_on}
-use Rattle.profile_install.proofs.GoodTemplate.{IsReady, IsTemplate, StartsWith, directory_is_there, in_directory, master_goes, row_is, starts_isim, starts_telecom, starts_usim}
+use Rattle.profile_install.proofs.GoodTemplate.{IsReady, IsTemplate, StartsWith, directory_is_there}
+use Rattle.profile_install.proofs.GoodTemplate.{in_directory, master_goes, row_is, starts_isim}
+use Rattle.profile_install.proofs.GoodTemplate.{starts_telecom, starts_usim}
 use Rattle.profile_install.proofs.GoodTemplate.IsTemplate.{MasterFile, Telecom, Usim, OptUsim, Isim}
 use Rattle.profile_install.proofs.Oks.{if_ok, not_ok, ok_is, then_ok}
 

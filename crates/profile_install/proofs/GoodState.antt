@@ -1,5 +1,7 @@
 -- Each part of a package keeps its draft good.
-use Rattle.std.proofs.Common.{◌≡◌, ◌≢◌, ◌⊎◌, ℕ, ◌+◌, ◌-◌, ◌≤◌, Bool, true, false, cond, not, ◌==◌, ◌&&◌, [], refl, sym, ◌∙◌, subst, inl, inr, ⊎_elim, Result, Ok, Err, arith}
+use Rattle.std.proofs.Common.{◌≡◌, ◌≢◌, ◌⊎◌, ℕ, ◌+◌, ◌-◌, ◌≤◌, Bool, true, false, cond, not, ◌==◌}
+use Rattle.std.proofs.Common.{◌&&◌, [], refl, sym, ◌∙◌, subst, inl, inr, ⊎_elim, Result, Ok, Err}
+use Rattle.std.proofs.Common.{arith}
 use Rattle.std.specs.Prelude.{nat_le}
 use Rattle.fcp_codec.specs.Creation.{HoldsFilesAt}
 use Rattle.fcp_codec.proofs.CreationLemmas.{two_hold}
@@ -7,7 +9,9 @@ use Rattle.profile_install.specs.Header.{no_header_fields}
 use Rattle.profile_install.specs.Management.{fresh_standing}
 use Rattle.profile_install.specs.PinEntry.{no_pin_fields}
 use Rattle.profile_install.specs.PukEntry.{no_puk_fields}
-use Rattle.profile_install.specs.State.{at, element_begins, file_opens, has_master, in_list, in_position, lists_open, opened_at, passing, placed, template_opens}
+use Rattle.profile_install.specs.State.{at, element_begins, file_opens, has_master, in_list}
+use Rattle.profile_install.specs.State.{in_position, lists_open, opened_at, passing, placed}
+use Rattle.profile_install.specs.State.{template_opens}
 use Rattle.profile_install.specs.Template.{at_position, directory_of, template_list}
 use Rattle.profile_install.specs.declared.draft.Draft.{Draft}
 use Rattle.profile_install.specs.declared.fault.ElementFault.{ElementFault}
@@ -15,12 +19,17 @@ use Rattle.profile_install.specs.declared.fault.ElementFault.TheVariants.{Malfor
 use Rattle.profile_install.specs.declared.state.ListKind.{ListKind}
 use Rattle.profile_install.specs.declared.state.ListKind.TheVariants.{StepList, PukList, PinList}
 use Rattle.profile_install.specs.declared.state.Spot.{Spot}
-use Rattle.profile_install.specs.declared.state.Spot.TheVariants.{Start, Elements, Ended, Header, Template, File, Descriptor, Lists, Steps, NewFile, Puks, PukEntry, Pins, PinEntry}
+use Rattle.profile_install.specs.declared.state.Spot.TheVariants.{Start, Elements, Ended, Header}
+use Rattle.profile_install.specs.declared.state.Spot.TheVariants.{Template, File, Descriptor, Lists}
+use Rattle.profile_install.specs.declared.state.Spot.TheVariants.{Steps, NewFile, Puks, PukEntry}
+use Rattle.profile_install.specs.declared.state.Spot.TheVariants.{Pins, PinEntry}
 use Rattle.profile_install.specs.declared.state.State.{State}
 use Rattle.profile_install.specs.declared.template.FileParts.{FileParts}
-use Rattle.profile_install.specs.declared.template.FileParts.TheVariants.{Awaited as PartsAwaited, LeftOut, Made}
+use Rattle.profile_install.specs.declared.template.FileParts.TheVariants.{Awaited as PartsAwaited}
+use Rattle.profile_install.specs.declared.template.FileParts.TheVariants.{LeftOut, Made}
 use Rattle.profile_install.specs.declared.template.TemplateList.{TemplateList}
-use Rattle.profile_install.proofs.GoodDraft.{Goes, IsGood, IsThere, goes_nowhere, master_there, none_there, stays_there}
+use Rattle.profile_install.proofs.GoodDraft.{Goes, IsGood, IsThere, goes_nowhere, master_there}
+use Rattle.profile_install.proofs.GoodDraft.{none_there, stays_there}
 use Rattle.profile_install.proofs.GoodPins.{ArePinFields, ArePukFields}
 use Rattle.profile_install.proofs.GoodRows.{PartsReady, position_made}
 use Rattle.profile_install.proofs.GoodTemplate.{IsReady, IsTemplate}

@@ -1,5 +1,7 @@
 -- The steps of a file management element keep a draft good, and stand at a directory that is there.
-use Rattle.std.proofs.Common.{◌≡◌, ℕ, zero, suc, Bool, true, false, cond, ◌==◌, List, [], ◌∷◌, ◌++◌, refl, sym, ◌∙◌, ap, subst, inr, ⊎_elim, append_assoc, Option, Some, None, Result, Ok, Err, position, slice_get}
+use Rattle.std.proofs.Common.{◌≡◌, ℕ, zero, suc, Bool, true, false, cond, ◌==◌, List, [], ◌∷◌, ◌++◌}
+use Rattle.std.proofs.Common.{refl, sym, ◌∙◌, ap, subst, inr, ⊎_elim, append_assoc, Option, Some}
+use Rattle.std.proofs.Common.{None, Result, Ok, Err, position, slice_get}
 use Rattle.std.specs.Prelude.{unwrap_or}
 use Rattle.std.specs.Bool.{IsTrue}
 use Rattle.std.specs.List.{Any}
@@ -17,9 +19,13 @@ use Rattle.file_rows.proofs.ListLemmas.{any_first, any_left, any_later, any_weak
 use Rattle.file_rows.proofs.PathLemmas.{parent_is}
 use Rattle.fcp_codec.specs.Creation.{HoldsFilesAt}
 use Rattle.fcp_codec.specs.declared.fcp.Fcp.{Fcp}
-use Rattle.profile_install.specs.Draft.{filled, head_made, last_file, skip_count, skipped, with_new_file}
+use Rattle.profile_install.specs.Draft.{filled, head_made, last_file, skip_count, skipped}
+use Rattle.profile_install.specs.Draft.{with_new_file}
 use Rattle.profile_install.specs.ElementResult.{then_with}
-use Rattle.profile_install.specs.Management.{at_new, with_content_step, gone_to, in_file, path_below_master, selected, skip_at, standing_at_place, standing_at_row, with_file_made, with_step}
+use Rattle.profile_install.specs.Management.{at_new, with_content_step, gone_to, in_file}
+use Rattle.profile_install.specs.Management.{path_below_master, selected, skip_at}
+use Rattle.profile_install.specs.Management.{standing_at_place, standing_at_row, with_file_made}
+use Rattle.profile_install.specs.Management.{with_step}
 use Rattle.profile_install.specs.declared.draft.Draft.{Draft}
 use Rattle.profile_install.specs.declared.draft.Filled.{Filled}
 use Rattle.profile_install.specs.declared.draft.OpenFile.{OpenFile}
@@ -27,7 +33,8 @@ use Rattle.profile_install.specs.declared.fault.ElementFault.{ElementFault}
 use Rattle.profile_install.specs.declared.fault.ElementFault.TheVariants.{Malformed, BadParameter}
 use Rattle.profile_install.specs.declared.management.Managed.{Managed}
 use Rattle.profile_install.specs.declared.management.Standing.{Standing}
-use Rattle.profile_install.proofs.GoodDraft.{Goes, IsGood, IsThere, fill_goes, goes_nowhere, goes_with, head_fits, new_there, stays_there}
+use Rattle.profile_install.proofs.GoodDraft.{Goes, IsGood, IsThere, fill_goes, goes_nowhere}
+use Rattle.profile_install.proofs.GoodDraft.{goes_with, head_fits, new_there, stays_there}
 use Rattle.profile_install.proofs.Oks.{if_ok, not_ok, ok_is, then_ok}
 
 -- each file below the MF stands in a directory that is there

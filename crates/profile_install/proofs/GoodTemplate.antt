@@ -1,5 +1,7 @@
 -- The files of a template keep a draft good.
-use Rattle.std.proofs.Common.{◌≡◌, ◌≢◌, ◌⊎◌, ℕ, ◌+◌, ◌≤◌, Bool, true, false, cond, ◌==◌, ◌&&◌, List, [], ◌∷◌, ◌++◌, refl, sym, ◌∙◌, ap, subst, inl, inr, ⊎_elim, Option, Some, None, Result, Ok, Err, arith}
+use Rattle.std.proofs.Common.{◌≡◌, ◌≢◌, ◌⊎◌, ℕ, ◌+◌, ◌≤◌, Bool, true, false, cond, ◌==◌, ◌&&◌, List}
+use Rattle.std.proofs.Common.{[], ◌∷◌, ◌++◌, refl, sym, ◌∙◌, ap, subst, inl, inr, ⊎_elim, Option}
+use Rattle.std.proofs.Common.{Some, None, Result, Ok, Err, arith}
 use Rattle.std.specs.Prelude.{find, is_some, nat_le, option_and_then}
 use Rattle.std.specs.Option.{option_map}
 use Rattle.std.specs.List.{AllByRecursion, list_all}
@@ -14,20 +16,23 @@ use Rattle.file_rows.specs.declared.head.Kind.TheVariants.{Directory as Director
 use Rattle.file_rows.specs.declared.pin.PinRow.{PinRow}
 use Rattle.file_rows.specs.declared.row.FileRow.{FileRow}
 use Rattle.file_rows.proofs.FindLemmas.{found_has}
-use Rattle.fcp_codec.specs.Creation.{HoldsFilesAt, created_as, created_with, head_told, is_good, kind_for, size_told}
+use Rattle.fcp_codec.specs.Creation.{HoldsFilesAt, created_as, created_with, head_told, is_good}
+use Rattle.fcp_codec.specs.Creation.{kind_for, size_told}
 use Rattle.fcp_codec.specs.FileForm.{form_of}
 use Rattle.fcp_codec.specs.declared.creation.CreationFault.{CreationFault}
 use Rattle.fcp_codec.specs.declared.creation.InUse.{InUse}
 use Rattle.fcp_codec.specs.declared.fcp.Fcp.{Fcp}
 use Rattle.fcp_codec.specs.declared.fcp.FileForm.{FileForm}
-use Rattle.fcp_codec.specs.declared.fcp.FileForm.TheVariants.{Directory, Transparent, Linear, Cyclic}
+use Rattle.fcp_codec.specs.declared.fcp.FileForm.TheVariants.{Directory, Transparent, Linear}
+use Rattle.fcp_codec.specs.declared.fcp.FileForm.TheVariants.{Cyclic}
 use Rattle.fcp_codec.proofs.CreationLemmas.{le_of, made_is as head_is, two_hold}
 use Rattle.file_templates.specs.Templates.{TemplateRow, is_row_at, row_at, template_rows}
 use Rattle.file_templates.specs.declared.template_row.Row.{Row}
 use Rattle.profile_install.specs.Draft.{head_made, head_of_row, in_use_now, with_new_file}
 use Rattle.profile_install.specs.Package.{content_of_draft}
 use Rattle.profile_install.specs.Template.{directory_of}
-use Rattle.profile_install.specs.TemplateFile.{descriptor_meant, is_kind_kept, is_name_due, parameters_given, parameters_of, row_descriptor}
+use Rattle.profile_install.specs.TemplateFile.{descriptor_meant, is_kind_kept, is_name_due}
+use Rattle.profile_install.specs.TemplateFile.{parameters_given, parameters_of, row_descriptor}
 use Rattle.profile_install.specs.declared.draft.Draft.{Draft}
 use Rattle.profile_install.specs.declared.fault.ElementFault.TheVariants.{BadParameter}
 use Rattle.profile_install.proofs.FilesFit.{made_is, master_fits, master_path}

@@ -1,5 +1,6 @@
 -- What a map or a set of keys has after one key more.
-use Rattle.std.proofs.Common.{◌≡◌, ℕ, Bool, true, false, cond, ◌&&◌, ◌||◌, ◌==◌, List, refl, sym, ◌∙◌, ap, Option, Some, None, arith}
+use Rattle.std.proofs.Common.{◌≡◌, ℕ, Bool, true, false, cond, ◌&&◌, ◌||◌, ◌==◌, List, refl, sym}
+use Rattle.std.proofs.Common.{◌∙◌, ap, Option, Some, None, arith}
 use Rattle.std.specs.Prelude.{is_some}
 use Rattle.std.specs.BTreeMap.{BTreeMap, get_by, UpdatesBy as UpdatesMap}
 use Rattle.std.specs.BTreeSet.{BTreeSet, contains_by, UpdatesBy as UpdatesSet}

@@ -1,5 +1,7 @@
 -- Files that are made have paths that are named.
-use Rattle.std.proofs.Common.{◌≡◌, ℕ, zero, suc, ◌+◌, ◌-◌, Bool, true, false, cond, ◌==◌, ◌&&◌, List, [], ◌∷◌, ◌++◌, length, refl, sym, ◌∙◌, ap, subst, Option, Some, None, Result, Ok, Err, slice_get, slice_set}
+use Rattle.std.proofs.Common.{◌≡◌, ℕ, zero, suc, ◌+◌, ◌-◌, Bool, true, false, cond, ◌==◌, ◌&&◌}
+use Rattle.std.proofs.Common.{List, [], ◌∷◌, ◌++◌, length, refl, sym, ◌∙◌, ap, subst, Option, Some}
+use Rattle.std.proofs.Common.{None, Result, Ok, Err, slice_get, slice_set}
 use Rattle.std.specs.Prelude.{nat_le, option_and_then, option_map}
 use Rattle.std.specs.List.{AllByRecursion}
 use Rattle.file_rows.specs.Change.{new_file, with_body, written}
@@ -17,12 +19,19 @@ use Rattle.fcp_codec.specs.declared.fcp.FileForm.{FileForm}
 use Rattle.fcp_codec.proofs.CreationLemmas.{made_is as head_is}
 use Rattle.file_templates.specs.Templates.{row_at}
 use Rattle.file_templates.specs.declared.template_row.Row.{Row}
-use Rattle.profile_install.specs.Draft.{content_in, filled, head_made, head_of_row, in_use_now, last_file, skip_count, skipped, with_new_file}
+use Rattle.profile_install.specs.Draft.{content_in, filled, head_made, head_of_row, in_use_now}
+use Rattle.profile_install.specs.Draft.{last_file, skip_count, skipped, with_new_file}
 use Rattle.profile_install.specs.ElementResult.{then_with}
-use Rattle.profile_install.specs.Management.{at_new, in_file, selected, skip_at, with_content_step, with_file_made, with_step}
+use Rattle.profile_install.specs.Management.{at_new, in_file, selected, skip_at, with_content_step}
+use Rattle.profile_install.specs.Management.{with_file_made, with_step}
 use Rattle.profile_install.specs.NamedFiles.{IsOfStep, IsOfTemplate}
-use Rattle.profile_install.specs.Template.{at_file_end, at_list_end, at_position, directory_at, is_master_at, just_made, made_before, no_fields, present, row_given, skipped_in, with_descriptor, with_not_given, with_part, with_present, with_row, with_row_at, with_rows}
-use Rattle.profile_install.specs.TemplateFile.{is_kind_kept, is_name_due, parameters_given, parameters_of}
+use Rattle.profile_install.specs.Template.{at_file_end, at_list_end, at_position, directory_at}
+use Rattle.profile_install.specs.Template.{is_master_at, just_made, made_before, no_fields, present}
+use Rattle.profile_install.specs.Template.{row_given, skipped_in, with_descriptor, with_not_given}
+use Rattle.profile_install.specs.Template.{with_part, with_present, with_row, with_row_at}
+use Rattle.profile_install.specs.Template.{with_rows}
+use Rattle.profile_install.specs.TemplateFile.{is_kind_kept, is_name_due, parameters_given}
+use Rattle.profile_install.specs.TemplateFile.{parameters_of}
 use Rattle.profile_install.specs.declared.draft.Draft.{Draft}
 use Rattle.profile_install.specs.declared.draft.Filled.{Filled}
 use Rattle.profile_install.specs.declared.draft.OpenFile.{OpenFile}

@@ -1,5 +1,7 @@
 -- The parts of a package make no files but those that are named.
-use Rattle.std.proofs.Common.{◌≡◌, ℕ, ◌+◌, ◌-◌, Bool, true, false, cond, not, ◌==◌, ◌&&◌, ◌||◌, List, [], ◌∷◌, ◌++◌, length, refl, sym, ◌∙◌, ap, subst, inl, inr, append_assoc, Option, Some, None, Result, Ok, Err}
+use Rattle.std.proofs.Common.{◌≡◌, ℕ, ◌+◌, ◌-◌, Bool, true, false, cond, not, ◌==◌, ◌&&◌, ◌||◌}
+use Rattle.std.proofs.Common.{List, [], ◌∷◌, ◌++◌, length, refl, sym, ◌∙◌, ap, subst, inl, inr}
+use Rattle.std.proofs.Common.{append_assoc, Option, Some, None, Result, Ok, Err}
 use Rattle.std.specs.Bool.{⊤}
 use Rattle.std.specs.Prelude.{nat_le}
 use Rattle.file_rows.specs.declared.content.Content.{Content}
@@ -13,12 +15,21 @@ use Rattle.package_reader.specs.declared.part.Part.TheVariants.{Head, Bytes, Clo
 use Rattle.profile_install.specs.ElementResult.{then_with}
 use Rattle.profile_install.specs.Header.{is_header_whole, no_header_fields, with_header_field}
 use Rattle.profile_install.specs.Management.{fresh_standing, with_file_made, with_step}
-use Rattle.profile_install.specs.NamedFiles.{IsNamed, IsOfStep, IsOfTemplate, NamesFile, listed_template}
-use Rattle.profile_install.specs.Package.{AllWhole, AreParts, PackageGives, after_part, after_turns, broken, closed, constructed_begins, element_with_fault, fresh_work, going, headed, heading, is_gathering, is_used_up, progress_after, step_settled, valued}
+use Rattle.profile_install.specs.NamedFiles.{IsNamed, IsOfStep, IsOfTemplate, NamesFile}
+use Rattle.profile_install.specs.NamedFiles.{listed_template}
+use Rattle.profile_install.specs.Package.{AllWhole, AreParts, PackageGives, after_part, after_turns}
+use Rattle.profile_install.specs.Package.{broken, closed, constructed_begins, element_with_fault}
+use Rattle.profile_install.specs.Package.{fresh_work, going, headed, heading, is_gathering}
+use Rattle.profile_install.specs.Package.{is_used_up, progress_after, step_settled, valued}
 use Rattle.profile_install.specs.PinEntry.{no_pin_fields, pin_told, with_pin_field}
 use Rattle.profile_install.specs.PukEntry.{no_puk_fields, puk_told, with_puk_field}
-use Rattle.profile_install.specs.State.{at, closed_at, depth_of, element_begins, file_opens, file_valued, has_master, in_list, in_parts, in_position, lists_open, opened_at, passing, placed, template_opens, template_valued, valued_at, with_managed, with_new_pin, with_new_puk}
-use Rattle.profile_install.specs.Template.{at_file_end, at_list_end, at_position, left_out, template_list, with_descriptor, with_part, with_template}
+use Rattle.profile_install.specs.State.{at, closed_at, depth_of, element_begins, file_opens}
+use Rattle.profile_install.specs.State.{file_valued, has_master, in_list, in_parts, in_position}
+use Rattle.profile_install.specs.State.{lists_open, opened_at, passing, placed, template_opens}
+use Rattle.profile_install.specs.State.{template_valued, valued_at, with_managed, with_new_pin}
+use Rattle.profile_install.specs.State.{with_new_puk}
+use Rattle.profile_install.specs.Template.{at_file_end, at_list_end, at_position, left_out}
+use Rattle.profile_install.specs.Template.{template_list, with_descriptor, with_part, with_template}
 use Rattle.profile_install.specs.declared.draft.Draft.{Draft}
 use Rattle.profile_install.specs.declared.draft.Filled.{Filled}
 use Rattle.profile_install.specs.declared.fault.ElementFault.{ElementFault}
@@ -32,17 +43,23 @@ use Rattle.profile_install.specs.declared.state.Awaited.{Awaited}
 use Rattle.profile_install.specs.declared.state.ListKind.{ListKind}
 use Rattle.profile_install.specs.declared.state.ListKind.TheVariants.{StepList, PukList, PinList}
 use Rattle.profile_install.specs.declared.state.Spot.{Spot}
-use Rattle.profile_install.specs.declared.state.Spot.TheVariants.{Start, Elements, Ended, Header, Template, File, Descriptor, Lists, Steps, NewFile, Puks, PukEntry, Pins, PinEntry}
+use Rattle.profile_install.specs.declared.state.Spot.TheVariants.{Start, Elements, Ended, Header}
+use Rattle.profile_install.specs.declared.state.Spot.TheVariants.{Template, File, Descriptor, Lists}
+use Rattle.profile_install.specs.declared.state.Spot.TheVariants.{Steps, NewFile, Puks, PukEntry}
+use Rattle.profile_install.specs.declared.state.Spot.TheVariants.{Pins, PinEntry}
 use Rattle.profile_install.specs.declared.state.State.{State}
 use Rattle.profile_install.specs.declared.template.FileParts.{FileParts}
-use Rattle.profile_install.specs.declared.template.FileParts.TheVariants.{Awaited as PartsAwaited, LeftOut, Made}
+use Rattle.profile_install.specs.declared.template.FileParts.TheVariants.{Awaited as PartsAwaited}
+use Rattle.profile_install.specs.declared.template.FileParts.TheVariants.{LeftOut, Made}
 use Rattle.profile_install.specs.declared.template.TemplateList.{TemplateList}
 use Rattle.profile_install.specs.declared.work.Faulty.{Faulty}
 use Rattle.profile_install.specs.declared.work.Progress.{Progress}
 use Rattle.profile_install.specs.declared.work.Progress.TheVariants.{Going, Broken, Refused}
 use Rattle.profile_install.specs.declared.work.Work.{Work}
 use Rattle.profile_install.proofs.Gives.{Gives, gives_always, gives_if, gives_then}
-use Rattle.profile_install.proofs.NamedFiles.{AllPaths, InDraft, InFilled, InManaged, descriptor_all, file_end_all, list_end_all, new_file_all, part_all, position_all, step_all}
+use Rattle.profile_install.proofs.NamedFiles.{AllPaths, InDraft, InFilled, InManaged}
+use Rattle.profile_install.proofs.NamedFiles.{descriptor_all, file_end_all, list_end_all}
+use Rattle.profile_install.proofs.NamedFiles.{new_file_all, part_all, position_all, step_all}
 use Rattle.profile_install.proofs.Outcome.{content_is}
 use Rattle.profile_install.proofs.Reading.{after_more}
 

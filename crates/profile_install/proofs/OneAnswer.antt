@@ -1,5 +1,6 @@
 -- Of the bytes of a package there is one way to take the parts, and so one answer.
-use Rattle.std.proofs.Common.{◌≡◌, ℕ, ◌+◌, Bool, false, cond, List, [], ◌∷◌, ◌++◌, length, refl, sym, ◌∙◌, ap, subst, ⊎_elim, Result, arith}
+use Rattle.std.proofs.Common.{◌≡◌, ℕ, ◌+◌, Bool, false, cond, List, [], ◌∷◌, ◌++◌, length, refl}
+use Rattle.std.proofs.Common.{sym, ◌∙◌, ap, subst, ⊎_elim, Result, arith}
 use Rattle.std.proofs.lemmas.Bool.{true≢false}
 use Rattle.std.proofs.lemmas.List.{append_cancel_left, append_cancel_right}
 use Rattle.file_rows.specs.declared.content.Content.{Content}
@@ -11,7 +12,8 @@ use Rattle.package_reader.specs.Turn.{GoesBy, Turn}
 use Rattle.package_reader.specs.Turn.Turn.{Comes, Goes}
 use Rattle.package_reader.specs.declared.part.Part.{Part}
 use Rattle.package_reader.specs.declared.part.Part.TheVariants.{Head, Bytes, Close, More, Bad}
-use Rattle.profile_install.specs.Package.{AllWhole, HasNoPart, PackageGives, after_turns, fresh_work, is_last, is_used_up, work_outcome}
+use Rattle.profile_install.specs.Package.{AllWhole, HasNoPart, PackageGives, after_turns}
+use Rattle.profile_install.specs.Package.{fresh_work, is_last, is_used_up, work_outcome}
 use Rattle.profile_install.specs.declared.work.Refusal.{Refusal}
 
 -- equal fields make equal states

@@ -1,5 +1,7 @@
 -- A package gives a content for one ICCID alone.
-use Rattle.std.proofs.Common.{◌≡◌, ℕ, ◌+◌, ◌-◌, Bool, true, false, cond, ◌==◌, ◌&&◌, ◌||◌, List, [], ◌∷◌, ◌++◌, length, refl, sym, ◌∙◌, ap, subst, ◌⊎◌, ⊎_elim, inl, inr, Option, Some, None, Result, Ok, Err}
+use Rattle.std.proofs.Common.{◌≡◌, ℕ, ◌+◌, ◌-◌, Bool, true, false, cond, ◌==◌, ◌&&◌, ◌||◌, List, []}
+use Rattle.std.proofs.Common.{◌∷◌, ◌++◌, length, refl, sym, ◌∙◌, ap, subst, ◌⊎◌, ⊎_elim, inl, inr}
+use Rattle.std.proofs.Common.{Option, Some, None, Result, Ok, Err}
 use Rattle.std.specs.Bool.{⊤}
 use Rattle.std.specs.Prelude.{nat_le}
 use Rattle.std.specs.Str.{bytes_eq}
@@ -12,16 +14,25 @@ use Rattle.package_reader.specs.Turn.Turn.{Comes, Goes}
 use Rattle.package_reader.specs.declared.part.Part.{Part}
 use Rattle.package_reader.specs.declared.part.Part.TheVariants.{Head, Bytes, Close, More, Bad}
 use Rattle.profile_install.specs.ElementResult.{then_with}
-use Rattle.profile_install.specs.Header.{is_header_whole, major_told, no_header_fields, with_header_field, with_iccid, with_major, with_minor}
-use Rattle.profile_install.specs.Package.{PackageGives, after_part, after_turns, broken, closed, constructed_begins, content_at_end, element_with_fault, fresh_work, gathering, going, headed, heading, is_gathering, is_used_up, package_outcome, progress_after, refused_at, step_settled, valued}
+use Rattle.profile_install.specs.Header.{is_header_whole, major_told, no_header_fields}
+use Rattle.profile_install.specs.Header.{with_header_field, with_iccid, with_major, with_minor}
+use Rattle.profile_install.specs.Package.{PackageGives, after_part, after_turns, broken, closed}
+use Rattle.profile_install.specs.Package.{constructed_begins, content_at_end, element_with_fault}
+use Rattle.profile_install.specs.Package.{fresh_work, gathering, going, headed, heading}
+use Rattle.profile_install.specs.Package.{is_gathering, is_used_up, package_outcome, progress_after}
+use Rattle.profile_install.specs.Package.{refused_at, step_settled, valued}
 use Rattle.profile_install.specs.State.{at, closed_at, depth_of, opened_at, valued_at}
 use Rattle.profile_install.specs.Values.{one_byte}
 use Rattle.profile_install.specs.declared.fault.ElementFault.{ElementFault}
-use Rattle.profile_install.specs.declared.fault.ElementFault.TheVariants.{Malformed, BadParameter, WrongVersion}
+use Rattle.profile_install.specs.declared.fault.ElementFault.TheVariants.{Malformed, BadParameter}
+use Rattle.profile_install.specs.declared.fault.ElementFault.TheVariants.{WrongVersion}
 use Rattle.profile_install.specs.declared.header.HeaderFields.{HeaderFields}
 use Rattle.profile_install.specs.declared.state.Awaited.{Awaited}
 use Rattle.profile_install.specs.declared.state.Spot.{Spot}
-use Rattle.profile_install.specs.declared.state.Spot.TheVariants.{Start, Elements, Ended, Header, Template, File, Descriptor, Lists, Steps, NewFile, Puks, PukEntry, Pins, PinEntry}
+use Rattle.profile_install.specs.declared.state.Spot.TheVariants.{Start, Elements, Ended, Header}
+use Rattle.profile_install.specs.declared.state.Spot.TheVariants.{Template, File, Descriptor, Lists}
+use Rattle.profile_install.specs.declared.state.Spot.TheVariants.{Steps, NewFile, Puks, PukEntry}
+use Rattle.profile_install.specs.declared.state.Spot.TheVariants.{Pins, PinEntry}
 use Rattle.profile_install.specs.declared.state.State.{State}
 use Rattle.profile_install.specs.declared.work.Faulty.{Faulty}
 use Rattle.profile_install.specs.declared.work.Progress.{Progress}

@@ -1,12 +1,16 @@
 -- Where a package gives a content, it has come to its end.
 use Rattle.std.proofs.Common.{◌≡◌, ℕ, ◌+◌, Bool, true, false, cond, ◌==◌, ◌&&◌, refl, Ok}
 use Rattle.file_rows.specs.declared.content.Content.{Content}
-use Rattle.profile_install.specs.Package.{content_at_end, content_of_draft, package_outcome, refused_at}
+use Rattle.profile_install.specs.Package.{content_at_end, content_of_draft, package_outcome}
+use Rattle.profile_install.specs.Package.{refused_at}
 use Rattle.profile_install.specs.State.{depth_of}
 use Rattle.profile_install.specs.declared.fault.ElementFault.{ElementFault}
 use Rattle.profile_install.specs.declared.fault.ElementFault.TheVariants.{Malformed}
 use Rattle.profile_install.specs.declared.state.Spot.{Spot}
-use Rattle.profile_install.specs.declared.state.Spot.TheVariants.{Start, Elements, Ended, Header, Template, File, Descriptor, Lists, Steps, NewFile, Puks, PukEntry, Pins, PinEntry}
+use Rattle.profile_install.specs.declared.state.Spot.TheVariants.{Start, Elements, Ended, Header}
+use Rattle.profile_install.specs.declared.state.Spot.TheVariants.{Template, File, Descriptor, Lists}
+use Rattle.profile_install.specs.declared.state.Spot.TheVariants.{Steps, NewFile, Puks, PukEntry}
+use Rattle.profile_install.specs.declared.state.Spot.TheVariants.{Pins, PinEntry}
 use Rattle.profile_install.specs.declared.state.State.{State}
 use Rattle.profile_install.specs.declared.work.Progress.{Progress}
 use Rattle.profile_install.specs.declared.work.Progress.TheVariants.{Going, Broken, Refused}

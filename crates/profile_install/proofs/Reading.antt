@@ -1,5 +1,6 @@
 -- Taking the parts of a package one after another.
-use Rattle.std.proofs.Common.{◌≡◌, ℕ, ◌+◌, ◌<◌, ◌≤◌, Bool, true, false, cond, List, [], ◌∷◌, ◌++◌, length, refl, sym, inl, inr, ◌∙◌, ap, subst, arith, length-append}
+use Rattle.std.proofs.Common.{◌≡◌, ℕ, ◌+◌, ◌<◌, ◌≤◌, Bool, true, false, cond, List, [], ◌∷◌, ◌++◌}
+use Rattle.std.proofs.Common.{length, refl, sym, inl, inr, ◌∙◌, ap, subst, arith, length-append}
 use Rattle.ber_tlv.specs.Head.{SpellsHead}
 use Rattle.ber_tlv.specs.Tag.{SpellsTag}
 use Rattle.ber_tlv.specs.Length.{SpellsLength}
@@ -9,7 +10,8 @@ use Rattle.package_reader.specs.Turn.{GoesBy, Turn}
 use Rattle.package_reader.specs.Turn.Turn.{Comes, Goes}
 use Rattle.package_reader.specs.declared.part.Part.{Part}
 use Rattle.package_reader.specs.declared.part.Part.TheVariants.{Head, Bytes, Close, More, Bad}
-use Rattle.profile_install.specs.Package.{AllWhole, HasNoPart, ReadsParts, after_part, after_turns, is_last}
+use Rattle.profile_install.specs.Package.{AllWhole, HasNoPart, ReadsParts, after_part, after_turns}
+use Rattle.profile_install.specs.Package.{is_last}
 use Rattle.profile_install.specs.declared.work.Work.{Work}
 
 pub goes_more : (old new next : ReaderState) (turns : List Turn) (part : Part)

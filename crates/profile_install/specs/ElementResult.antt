@@ -1,7 +1,10 @@
 -- The results of a package that is refused (TCA eUICC Profile Package).
 use Rattle.std.specs.Prelude.{◌≡◌, ℕ, ⊤, Result, Ok, Err}
 use Rattle.profile_install.specs.declared.fault.ElementFault.{ElementFault}
-use Rattle.profile_install.specs.declared.fault.ElementFault.TheVariants.{NoRoom, Malformed, BadParameter, WrongTemplate, WrongVersion}
+use Rattle.profile_install.specs.declared.fault.ElementFault.TheVariants.{NoRoom, Malformed}
+use Rattle.profile_install.specs.declared.fault.ElementFault.TheVariants.{BadParameter}
+use Rattle.profile_install.specs.declared.fault.ElementFault.TheVariants.{WrongTemplate}
+use Rattle.profile_install.specs.declared.fault.ElementFault.TheVariants.{WrongVersion}
 use Rattle.profile_install.specs.declared.fault.StepFault.{StepFault}
 use Rattle.profile_install.specs.declared.fault.StepFault.TheVariants.{Refused, OutOfMemory}
 

@@ -1,10 +1,12 @@
 -- The header of a package: `80` its major version, `81` its minor one, `83` the ICCID.
-use Rattle.std.specs.Prelude.{ℕ, Bool, true, false, ◌==◌, ◌&&◌, ◌||◌, if◌then◌else◌, List, length, Result, Ok, Err}
+use Rattle.std.specs.Prelude.{ℕ, Bool, true, false, ◌==◌, ◌&&◌, ◌||◌, if◌then◌else◌, List, length}
+use Rattle.std.specs.Prelude.{Result, Ok, Err}
 use Rattle.std.specs.Str.{bytes_eq}
 use Rattle.profile_install.specs.ElementResult.{then_with}
 use Rattle.profile_install.specs.Values.{one_byte}
 use Rattle.profile_install.specs.declared.fault.ElementFault.{ElementFault}
-use Rattle.profile_install.specs.declared.fault.ElementFault.TheVariants.{Malformed, BadParameter, WrongVersion}
+use Rattle.profile_install.specs.declared.fault.ElementFault.TheVariants.{Malformed, BadParameter}
+use Rattle.profile_install.specs.declared.fault.ElementFault.TheVariants.{WrongVersion}
 use Rattle.profile_install.specs.declared.header.HeaderFields.{HeaderFields}
 
 abbrev pub no_header_fields : HeaderFields

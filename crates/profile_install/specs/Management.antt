@@ -1,12 +1,14 @@
 -- The steps of a file management element.
-use Rattle.std.specs.Prelude.{ℕ, ◌+◌, ◌*◌, ◌%◌, ◌==◌, if◌then◌else◌, List, [], ◌∷◌, length, position, slice_get, Option, Some, None, unwrap_or, Result, Ok, Err}
+use Rattle.std.specs.Prelude.{ℕ, ◌+◌, ◌*◌, ◌%◌, ◌==◌, if◌then◌else◌, List, [], ◌∷◌, length}
+use Rattle.std.specs.Prelude.{position, slice_get, Option, Some, None, unwrap_or, Result, Ok, Err}
 use Rattle.file_rows.specs.FileHead.{holds_files}
 use Rattle.file_rows.specs.Path.{parent_of, same_path}
 use Rattle.file_rows.specs.declared.head.FileHead.{FileHead}
 use Rattle.file_rows.specs.declared.row.FileRow.{FileRow}
 use Rattle.fcp_codec.specs.declared.fcp.Fcp.{Fcp}
 use Rattle.profile_install.specs.ElementResult.{then_with}
-use Rattle.profile_install.specs.Draft.{filled, head_made, last_file, skip_count, skipped, with_new_file}
+use Rattle.profile_install.specs.Draft.{filled, head_made, last_file, skip_count, skipped}
+use Rattle.profile_install.specs.Draft.{with_new_file}
 use Rattle.profile_install.specs.declared.draft.Draft.{Draft}
 use Rattle.profile_install.specs.declared.draft.Filled.{Filled}
 use Rattle.profile_install.specs.declared.draft.OpenFile.{OpenFile}

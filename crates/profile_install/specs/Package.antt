@@ -1,5 +1,7 @@
 -- A package: what its parts, in reading order, come to.
-use Rattle.std.specs.Prelude.{◌≡◌, ◌⊎◌, ⊤, ℕ, Bool, true, false, ◌+◌, ◌-◌, ◌==◌, ◌&&◌, ◌||◌, nat_le, if◌then◌else◌, List, [], ◌∷◌, ◌++◌, length, Option, Some, None, Result, Ok, Err}
+use Rattle.std.specs.Prelude.{◌≡◌, ◌⊎◌, ⊤, ℕ, Bool, true, false, ◌+◌, ◌-◌, ◌==◌, ◌&&◌, ◌||◌, nat_le}
+use Rattle.std.specs.Prelude.{if◌then◌else◌, List, [], ◌∷◌, ◌++◌, length, Option, Some, None}
+use Rattle.std.specs.Prelude.{Result, Ok, Err}
 use Rattle.file_rows.specs.declared.content.Content.{Content}
 use Rattle.package_reader.specs.Part.{HandsOut}
 use Rattle.package_reader.specs.ReaderState.{ReaderState, fed, fresh_reader, opens}
@@ -14,7 +16,10 @@ use Rattle.profile_install.specs.declared.fault.ElementFault.{ElementFault}
 use Rattle.profile_install.specs.declared.fault.ElementFault.TheVariants.{Malformed}
 use Rattle.profile_install.specs.declared.state.Awaited.{Awaited}
 use Rattle.profile_install.specs.declared.state.Spot.{Spot}
-use Rattle.profile_install.specs.declared.state.Spot.TheVariants.{Start, Elements, Ended, Header, Template, File, Descriptor, Lists, Steps, NewFile, Puks, PukEntry, Pins, PinEntry}
+use Rattle.profile_install.specs.declared.state.Spot.TheVariants.{Start, Elements, Ended, Header}
+use Rattle.profile_install.specs.declared.state.Spot.TheVariants.{Template, File, Descriptor, Lists}
+use Rattle.profile_install.specs.declared.state.Spot.TheVariants.{Steps, NewFile, Puks, PukEntry}
+use Rattle.profile_install.specs.declared.state.Spot.TheVariants.{Pins, PinEntry}
 use Rattle.profile_install.specs.declared.state.State.{State}
 use Rattle.profile_install.specs.declared.work.BuildFault.{BuildFault}
 use Rattle.profile_install.specs.declared.work.BuildFault.TheVariants.{Element, OutOfMemory}

@@ -1,6 +1,7 @@
 -- An entry of the PINs of a package: `80` the key, `81` the value, `82` the key of its PUK, `83`
 -- the attributes, `84` the tries.
-use Rattle.std.specs.Prelude.{ℕ, Bool, ◌+◌, ◌%◌, ◌==◌, ◌&&◌, ◌||◌, not, nat_le, if◌then◌else◌, List, length, find, Option, Some, None, unwrap_or, Result, Ok, Err}
+use Rattle.std.specs.Prelude.{ℕ, Bool, ◌+◌, ◌%◌, ◌==◌, ◌&&◌, ◌||◌, not, nat_le, if◌then◌else◌, List}
+use Rattle.std.specs.Prelude.{length, find, Option, Some, None, unwrap_or, Result, Ok, Err}
 use Rattle.std.specs.List.{list_any}
 use Rattle.file_rows.specs.Path.{master, same_path}
 use Rattle.file_rows.specs.declared.pin.PinRow.{PinRow}
@@ -9,7 +10,8 @@ use Rattle.profile_install.specs.ElementResult.{then_with}
 use Rattle.profile_install.specs.Values.{eight_bytes, kept, one_byte, tries_in, tries_of}
 use Rattle.profile_install.specs.declared.draft.Draft.{Draft}
 use Rattle.profile_install.specs.declared.fault.ElementFault.{ElementFault}
-use Rattle.profile_install.specs.declared.fault.ElementFault.TheVariants.{NoRoom, Malformed, BadParameter}
+use Rattle.profile_install.specs.declared.fault.ElementFault.TheVariants.{NoRoom, Malformed}
+use Rattle.profile_install.specs.declared.fault.ElementFault.TheVariants.{BadParameter}
 use Rattle.profile_install.specs.declared.pin_entry.PinFields.{PinFields}
 use Rattle.profile_install.specs.declared.puk_entry.NamedPuk.{NamedPuk}
 use Rattle.profile_install.specs.declared.values.Tries.{Tries}

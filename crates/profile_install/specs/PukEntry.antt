@@ -1,5 +1,6 @@
 -- An entry of the PUKs of a package: `80` the key, `81` the value, `84` the tries.
-use Rattle.std.specs.Prelude.{ℕ, Bool, ◌==◌, if◌then◌else◌, List, Option, Some, None, unwrap_or, Result, Ok, Err}
+use Rattle.std.specs.Prelude.{ℕ, Bool, ◌==◌, if◌then◌else◌, List, Option, Some, None, unwrap_or}
+use Rattle.std.specs.Prelude.{Result, Ok, Err}
 use Rattle.std.specs.List.{list_any}
 use Rattle.profile_install.specs.ElementResult.{then_with}
 use Rattle.profile_install.specs.Values.{eight_bytes, kept, one_byte, tries_in, tries_of}

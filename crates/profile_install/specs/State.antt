@@ -1,5 +1,6 @@
 -- Where the next part of a package stands, and what it does there.
-use Rattle.std.specs.Prelude.{ℕ, Bool, true, false, ◌+◌, ◌-◌, ◌==◌, ◌&&◌, not, nat_le, if◌then◌else◌, List, [], ◌∷◌, ◌++◌, length, None, Result, Ok, Err}
+use Rattle.std.specs.Prelude.{ℕ, Bool, true, false, ◌+◌, ◌-◌, ◌==◌, ◌&&◌, not, nat_le}
+use Rattle.std.specs.Prelude.{if◌then◌else◌, List, [], ◌∷◌, ◌++◌, length, None, Result, Ok, Err}
 use Rattle.fcp_codec.specs.Reading.{fields_in}
 use Rattle.file_rows.specs.declared.pin.PinRow.{PinRow}
 use Rattle.profile_install.specs.ElementResult.{then_with}
@@ -8,7 +9,8 @@ use Rattle.profile_install.specs.Header.{is_header_whole, no_header_fields, with
 use Rattle.profile_install.specs.Management.{fresh_standing, with_file_made, with_step}
 use Rattle.profile_install.specs.PinEntry.{no_pin_fields, pin_told, with_pin_field}
 use Rattle.profile_install.specs.PukEntry.{no_puk_fields, puk_told, with_puk_field}
-use Rattle.profile_install.specs.Template.{at_file_end, at_list_end, at_position, left_out, template_list, with_descriptor, with_part, with_template}
+use Rattle.profile_install.specs.Template.{at_file_end, at_list_end, at_position, left_out}
+use Rattle.profile_install.specs.Template.{template_list, with_descriptor, with_part, with_template}
 use Rattle.profile_install.specs.declared.draft.Draft.{Draft}
 use Rattle.profile_install.specs.declared.draft.Filled.{Filled}
 use Rattle.profile_install.specs.declared.fault.ElementFault.{ElementFault}
@@ -18,10 +20,14 @@ use Rattle.profile_install.specs.declared.puk_entry.NamedPuk.{NamedPuk}
 use Rattle.profile_install.specs.declared.state.ListKind.{ListKind}
 use Rattle.profile_install.specs.declared.state.ListKind.TheVariants.{StepList, PukList, PinList}
 use Rattle.profile_install.specs.declared.state.Spot.{Spot}
-use Rattle.profile_install.specs.declared.state.Spot.TheVariants.{Start, Elements, Ended, Header, Template, File, Descriptor, Lists, Steps, NewFile, Puks, PukEntry, Pins, PinEntry}
+use Rattle.profile_install.specs.declared.state.Spot.TheVariants.{Start, Elements, Ended, Header}
+use Rattle.profile_install.specs.declared.state.Spot.TheVariants.{Template, File, Descriptor, Lists}
+use Rattle.profile_install.specs.declared.state.Spot.TheVariants.{Steps, NewFile, Puks, PukEntry}
+use Rattle.profile_install.specs.declared.state.Spot.TheVariants.{Pins, PinEntry}
 use Rattle.profile_install.specs.declared.state.State.{State}
 use Rattle.profile_install.specs.declared.template.FileParts.{FileParts}
-use Rattle.profile_install.specs.declared.template.FileParts.TheVariants.{Awaited as PartsAwaited, LeftOut, Made}
+use Rattle.profile_install.specs.declared.template.FileParts.TheVariants.{Awaited as PartsAwaited}
+use Rattle.profile_install.specs.declared.template.FileParts.TheVariants.{LeftOut, Made}
 use Rattle.profile_install.specs.declared.template.TemplateList.{TemplateList}
 
 abbrev pub fresh_state : State

@@ -1,16 +1,20 @@
 -- The elements that make the files of a template: the MF, telecom, the USIM, its optional files,
 -- and the ISIM.
-use Rattle.std.specs.Prelude.{ℕ, zero, suc, Bool, true, false, ◌||◌, ◌+◌, ◌-◌, ◌==◌, ◌&&◌, not, nat_lt, if◌then◌else◌, List, [], ◌∷◌, length, Option, Some, None, Result, Ok, Err}
+use Rattle.std.specs.Prelude.{ℕ, zero, suc, Bool, true, false, ◌||◌, ◌+◌, ◌-◌, ◌==◌, ◌&&◌, not}
+use Rattle.std.specs.Prelude.{nat_lt, if◌then◌else◌, List, [], ◌∷◌, length, Option, Some, None}
+use Rattle.std.specs.Prelude.{Result, Ok, Err}
 use Rattle.std.specs.Str.{bytes_eq}
 use Rattle.fcp_codec.specs.declared.fcp.Fcp.{Fcp}
 use Rattle.file_templates.specs.Templates.{row_at}
 use Rattle.file_templates.specs.declared.template_row.Row.{Row}
 use Rattle.profile_install.specs.ElementResult.{then_with}
-use Rattle.profile_install.specs.Draft.{filled, head_of_row, last_file, skip_count, skipped, with_new_file}
+use Rattle.profile_install.specs.Draft.{filled, head_of_row, last_file, skip_count, skipped}
+use Rattle.profile_install.specs.Draft.{with_new_file}
 use Rattle.profile_install.specs.declared.draft.Draft.{Draft}
 use Rattle.profile_install.specs.declared.draft.Filled.{Filled}
 use Rattle.profile_install.specs.declared.fault.ElementFault.{ElementFault}
-use Rattle.profile_install.specs.declared.fault.ElementFault.TheVariants.{Malformed, BadParameter, WrongTemplate}
+use Rattle.profile_install.specs.declared.fault.ElementFault.TheVariants.{Malformed, BadParameter}
+use Rattle.profile_install.specs.declared.fault.ElementFault.TheVariants.{WrongTemplate}
 use Rattle.profile_install.specs.declared.template.FileParts.{FileParts}
 use Rattle.profile_install.specs.declared.template.FileParts.TheVariants.{Awaited, LeftOut, Made}
 use Rattle.profile_install.specs.declared.template.TemplateList.{TemplateList}

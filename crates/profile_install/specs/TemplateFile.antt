@@ -1,10 +1,16 @@
 -- A file of a template, with what its descriptor in the package says of it.
-use Rattle.std.specs.Prelude.{ℕ, Bool, true, ◌&&◌, if◌then◌else◌, List, [], ◌∷◌, Option, Some, None, is_some, is_none, unwrap_or, Result, Ok, Err}
-use Rattle.file_rows.specs.FileHead.{holds_files, is_application, is_cyclic, is_linear, is_transparent}
+use Rattle.std.specs.Prelude.{ℕ, Bool, true, ◌&&◌, if◌then◌else◌, List, [], ◌∷◌, Option, Some, None}
+use Rattle.std.specs.Prelude.{is_some, is_none, unwrap_or, Result, Ok, Err}
+use Rattle.file_rows.specs.FileHead.{holds_files, is_application, is_cyclic, is_linear}
+use Rattle.file_rows.specs.FileHead.{is_transparent}
 use Rattle.file_rows.specs.Path.{master}
 use Rattle.file_rows.specs.declared.head.FileHead.{FileHead}
 use Rattle.file_rows.specs.declared.head.Kind.{Kind}
-use Rattle.file_rows.specs.declared.head.Kind.TheVariants.{Master, Directory as DirectoryKind, Application, Transparent as TransparentKind, Linear as LinearKind, Cyclic as CyclicKind}
+use Rattle.file_rows.specs.declared.head.Kind.TheVariants.{Master, Directory as DirectoryKind}
+use Rattle.file_rows.specs.declared.head.Kind.TheVariants.{Application}
+use Rattle.file_rows.specs.declared.head.Kind.TheVariants.{Transparent as TransparentKind}
+use Rattle.file_rows.specs.declared.head.Kind.TheVariants.{Linear as LinearKind}
+use Rattle.file_rows.specs.declared.head.Kind.TheVariants.{Cyclic as CyclicKind}
 use Rattle.file_rows.specs.declared.head.Life.{Life}
 use Rattle.file_rows.specs.declared.head.Life.TheVariants.{Active}
 use Rattle.file_rows.specs.declared.row.FileRow.{FileRow}
@@ -12,10 +18,12 @@ use Rattle.fcp_codec.specs.Creation.{created}
 use Rattle.fcp_codec.specs.FileForm.{form_of}
 use Rattle.fcp_codec.specs.RuleRef.{rule_at}
 use Rattle.fcp_codec.specs.declared.creation.CreationFault.{CreationFault}
-use Rattle.fcp_codec.specs.declared.creation.CreationFault.TheVariants.{BadParameters, IdInUse, NameInUse, QuotaExceeded}
+use Rattle.fcp_codec.specs.declared.creation.CreationFault.TheVariants.{BadParameters, IdInUse}
+use Rattle.fcp_codec.specs.declared.creation.CreationFault.TheVariants.{NameInUse, QuotaExceeded}
 use Rattle.fcp_codec.specs.declared.fcp.Fcp.{Fcp}
 use Rattle.fcp_codec.specs.declared.fcp.FileForm.{FileForm}
-use Rattle.fcp_codec.specs.declared.fcp.FileForm.TheVariants.{Directory, Transparent, Linear, Cyclic}
+use Rattle.fcp_codec.specs.declared.fcp.FileForm.TheVariants.{Directory, Transparent, Linear}
+use Rattle.fcp_codec.specs.declared.fcp.FileForm.TheVariants.{Cyclic}
 use Rattle.fcp_codec.specs.declared.fcp.RuleRef.{RuleRef}
 use Rattle.fcp_codec.specs.declared.fcp.RuleRef.TheVariants.{Row as RowOf}
 use Rattle.file_templates.specs.declared.template_row.Row.{Row}

@@ -1,5 +1,6 @@
 //! From the pieces of a package to the content of a card.
-ghost use Rattle.std.specs.Prelude.{◌≡◌, ◌+◌, ◌++◌, ◌<◌, ◌^◌, [], Err, IfOk, List, MatchOption, None, OnErr, Some, length, ℕ};
+ghost use Rattle.std.specs.Prelude.{◌≡◌, ◌+◌, ◌++◌, ◌<◌, ◌^◌, [], Err, IfOk, List, MatchOption};
+ghost use Rattle.std.specs.Prelude.{None, OnErr, Some, length, ℕ};
 ghost use Rattle.std.specs.List.{AllByRecursion};
 ghost use Rattle.std.specs.Option.{ForSome};
 ghost use Rattle.file_rows.specs.Content.{IsValid};

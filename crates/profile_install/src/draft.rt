@@ -2,7 +2,9 @@
 ghost use Rattle.std.specs.Prelude.{◌≡◌, ◌+◌, ◌<◌, ◌^◌, [], IfOk, IsTrue, slice_get, unwrap_or};
 ghost use Rattle.file_rows.specs.Change.{new_file};
 ghost use Rattle.file_rows.specs.Find.{is_id_used, is_name_used, is_sfi_used};
-ghost use Rattle.profile_install.specs.Draft.{content_in, filled, fresh_draft, head_made, head_of_row, in_use_now, last_file, skip_count, skipped, with_new_file};
+ghost use Rattle.profile_install.specs.Draft.{content_in, filled, fresh_draft, head_made};
+ghost use Rattle.profile_install.specs.Draft.{head_of_row, in_use_now, last_file, skip_count};
+ghost use Rattle.profile_install.specs.Draft.{skipped, with_new_file};
 ghost use Rattle.profile_install.specs.Room.{has_room};
 
 use crate::{DraftFiles, ElementFault, NamedPuk, file_head, file_parameters, master_head};

@@ -1,5 +1,7 @@
 //! The files that a package has made, found by path, by SFI and by name.
-ghost use Rattle.std.specs.Prelude.{◌≡◌, ℕ, ◌+◌, ◌≤◌, ◌==◌, ◌&&◌, ◌||◌, [], ◌∷◌, ◌++◌, if◌then◌else◌, IfOk, IsSomeAnd, List, None, Some, is_some, length, position, slice_get, slice_set};
+ghost use Rattle.std.specs.Prelude.{◌≡◌, ℕ, ◌+◌, ◌≤◌, ◌==◌, ◌&&◌, ◌||◌, [], ◌∷◌, ◌++◌};
+ghost use Rattle.std.specs.Prelude.{if◌then◌else◌, IfOk, IsSomeAnd, List, None, Some, is_some};
+ghost use Rattle.std.specs.Prelude.{length, position, slice_get, slice_set};
 ghost use Rattle.std.specs.BTreeMap.{get_by};
 ghost use Rattle.std.specs.BTreeSet.{contains_by};
 ghost use Rattle.std.specs.Option.{option_or};
@@ -171,7 +173,8 @@ fn with_content(
     place: usize,
     bytes: &[u8],
 ) -> LongList<FileRow>
-    requires { IsSomeAnd (slice_get rows index) (λ row. place + length bytes.now ≤ length row.body) }
+    requires { IsSomeAnd (slice_get rows index)
+        (λ row. place + length bytes.now ≤ length row.body) }
     ensures { IsSomeAnd (slice_get rows index)
         (λ row. result ≡ slice_set rows index (with_body (written place bytes.now) row)) }
 {

@@ -1,6 +1,8 @@
 //! The header of a package.
 ghost use Rattle.std.specs.Prelude.{◌≡◌};
-ghost use Rattle.profile_install.specs.Header.{is_header_whole, major_told, no_header_fields, with_header_field, with_iccid, with_major, with_minor};
+ghost use Rattle.profile_install.specs.Header.{is_header_whole, major_told, no_header_fields};
+ghost use Rattle.profile_install.specs.Header.{with_header_field, with_iccid, with_major};
+ghost use Rattle.profile_install.specs.Header.{with_minor};
 
 use crate::ElementFault;
 use crate::values::one_byte;

@@ -1,7 +1,10 @@
 //! The steps of a file management element.
 ghost use Rattle.std.specs.Prelude.{◌≡◌, ◌+◌, ◌*◌, Some, Ok};
 ghost use Rattle.profile_install.specs.ElementResult.{ComesTo};
-ghost use Rattle.profile_install.specs.Management.{at_new, fresh_standing, gone_to, path_below_master, selected, skip_at, standing_at_place, standing_at_row, with_content_step, with_file_made, with_step};
+ghost use Rattle.profile_install.specs.Management.{at_new, fresh_standing, gone_to};
+ghost use Rattle.profile_install.specs.Management.{path_below_master, selected, skip_at};
+ghost use Rattle.profile_install.specs.Management.{standing_at_place, standing_at_row};
+ghost use Rattle.profile_install.specs.Management.{with_content_step, with_file_made, with_step};
 
 use crate::draft::skip_count;
 use crate::{Draft, DraftFiles, ElementFault, OpenFile, StepFault};

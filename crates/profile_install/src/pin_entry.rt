@@ -2,7 +2,10 @@
 ghost use Rattle.std.specs.Prelude.{◌≡◌, ◌==◌, ◌<◌, find, length, unwrap_or, Ok, Result};
 ghost use Rattle.profile_install.specs.ElementResult.{then_with};
 ghost use Rattle.profile_install.specs.Values.{kept, tries_of};
-ghost use Rattle.profile_install.specs.PinEntry.{home_of, is_global_key, is_key_taken, is_local_key, key_at, no_pin_fields, pin_key, pin_of, pin_told, pin_with, puk_found, puk_named, with_pin_field, with_pin_option};
+ghost use Rattle.profile_install.specs.PinEntry.{home_of, is_global_key, is_key_taken};
+ghost use Rattle.profile_install.specs.PinEntry.{is_local_key, key_at, no_pin_fields, pin_key};
+ghost use Rattle.profile_install.specs.PinEntry.{pin_of, pin_told, pin_with, puk_found, puk_named};
+ghost use Rattle.profile_install.specs.PinEntry.{with_pin_field, with_pin_option};
 
 use crate::puk_entry::NamedPuk;
 use crate::values::{Tries, eight_bytes, kept, one_byte, tries_in, tries_of};

@@ -2,7 +2,8 @@
 ghost use Rattle.std.specs.Prelude.{◌≡◌, Ok, Result};
 ghost use Rattle.profile_install.specs.ElementResult.{then_with};
 ghost use Rattle.profile_install.specs.Values.{kept};
-ghost use Rattle.profile_install.specs.PukEntry.{free_key, is_puk_key, no_puk_fields, puk_key, puk_of, puk_told, with_puk_field};
+ghost use Rattle.profile_install.specs.PukEntry.{free_key, is_puk_key, no_puk_fields, puk_key};
+ghost use Rattle.profile_install.specs.PukEntry.{puk_of, puk_told, with_puk_field};
 
 use crate::ElementFault;
 use crate::values::{Tries, eight_bytes, kept, one_byte, tries_in, tries_of};

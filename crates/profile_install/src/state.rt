@@ -1,7 +1,10 @@
 //! Where the next part of a package stands, and what it does there.
 ghost use Rattle.std.specs.Prelude.{◌≡◌, ◌<◌, [], Ok, Err, if◌then◌else◌};
 ghost use Rattle.profile_install.specs.ElementResult.{ComesTo};
-ghost use Rattle.profile_install.specs.State.{at, depth_of, element_begins, file_opens, fresh_state, has_master, in_list, in_position, lists_open, opened_at, passing, placed, template_opens};
+ghost use Rattle.profile_install.specs.State.{at, depth_of, element_begins, file_opens};
+ghost use Rattle.profile_install.specs.State.{fresh_state, has_master, in_list, in_position};
+ghost use Rattle.profile_install.specs.State.{lists_open, opened_at, passing, placed};
+ghost use Rattle.profile_install.specs.State.{template_opens};
 ghost use Rattle.profile_install.specs.Template.{template_list};
 
 use crate::{

@@ -3,7 +3,9 @@ ghost use Rattle.std.specs.Prelude.{◌≡◌, [], Ok, Err, IfOk, if◌then◌el
 ghost use Rattle.profile_install.specs.ElementResult.{ComesTo, then_with};
 ghost use Rattle.profile_install.specs.declared.fault.ElementFault.{ElementFault};
 ghost use Rattle.profile_install.specs.Management.{with_step};
-ghost use Rattle.profile_install.specs.State.{at, closed_at, file_closed, file_valued, with_managed, template_valued, valued_at, with_new_pin, with_new_puk};
+ghost use Rattle.profile_install.specs.State.{at, closed_at, file_closed, file_valued};
+ghost use Rattle.profile_install.specs.State.{with_managed, template_valued, valued_at};
+ghost use Rattle.profile_install.specs.State.{with_new_pin, with_new_puk};
 
 use crate::management::with_file_made;
 use crate::state::{ListKind, Spot, State, malformed};

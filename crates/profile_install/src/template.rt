@@ -2,7 +2,13 @@
 ghost use Rattle.std.specs.Prelude.{◌≡◌, ◌-◌, [], Ok};
 ghost use Rattle.file_templates.specs.Templates.{row_at};
 ghost use Rattle.profile_install.specs.ElementResult.{ComesTo};
-ghost use Rattle.profile_install.specs.Template.{at_file_end, at_list_end, at_position, directory_at, directory_of, is_master_at, just_made, left_out, made_before, no_fields, present, row_given, skipped_in, template_list, with_descriptor, with_not_given, with_part, with_present, with_row, with_row_at, with_rows, with_template};
+ghost use Rattle.profile_install.specs.Template.{at_file_end, at_list_end, at_position};
+ghost use Rattle.profile_install.specs.Template.{directory_at, directory_of, is_master_at};
+ghost use Rattle.profile_install.specs.Template.{just_made, left_out, made_before, no_fields};
+ghost use Rattle.profile_install.specs.Template.{present, row_given, skipped_in, template_list};
+ghost use Rattle.profile_install.specs.Template.{with_descriptor, with_not_given, with_part};
+ghost use Rattle.profile_install.specs.Template.{with_present, with_row, with_row_at, with_rows};
+ghost use Rattle.profile_install.specs.Template.{with_template};
 
 use crate::draft::skip_count;
 use crate::{Draft, ElementFault, Filled, OpenFile, StepFault};

@@ -1,7 +1,10 @@
 //! A file of a template, with what its descriptor says of it.
 ghost use Rattle.std.specs.Prelude.{◌≡◌};
 ghost use Rattle.fcp_codec.specs.Creation.{created_with};
-ghost use Rattle.profile_install.specs.TemplateFile.{described_master, descriptor_meant, is_kind_kept, is_name_due, made_result, making_fault, master_with, parameters_given, parameters_of, row_descriptor};
+ghost use Rattle.profile_install.specs.TemplateFile.{described_master, descriptor_meant};
+ghost use Rattle.profile_install.specs.TemplateFile.{is_kind_kept, is_name_due, made_result};
+ghost use Rattle.profile_install.specs.TemplateFile.{making_fault, master_with, parameters_given};
+ghost use Rattle.profile_install.specs.TemplateFile.{parameters_of, row_descriptor};
 
 use crate::ElementFault;
 use fcp_codec::{CreationFault, Fcp, FileForm, InUse, RuleRef, new_head};

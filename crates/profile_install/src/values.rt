@@ -1,6 +1,7 @@
 //! What the values of fields say.
 ghost use Rattle.std.specs.Prelude.{◌≡◌};
-ghost use Rattle.profile_install.specs.Values.{are_tries, eight_bytes, kept, one_byte, tries_if_good, tries_in, tries_of};
+ghost use Rattle.profile_install.specs.Values.{are_tries, eight_bytes, kept, one_byte};
+ghost use Rattle.profile_install.specs.Values.{tries_if_good, tries_in, tries_of};
 
 use crate::ElementFault;
 

@@ -4,7 +4,13 @@ ghost use Rattle.profile_install.specs.declared.fault.ElementFault.{ElementFault
 ghost use Rattle.profile_install.specs.declared.state.State.{State};
 ghost use Rattle.package_reader.specs.ReaderState.{opens};
 ghost use Rattle.profile_install.specs.ElementResult.{ComesTo};
-ghost use Rattle.profile_install.specs.Package.{after_part, broken, closed, content_at_end, content_of_draft, fresh_work, gathering, going, headed, heading, IsOutcome, is_element_due, is_gathering, is_head, constructed_begins, package_outcome, place_after, progress_after, refused_at, step_settled, valued, element_with_fault};
+ghost use Rattle.profile_install.specs.Package.{after_part, broken, closed, content_at_end};
+ghost use Rattle.profile_install.specs.Package.{content_of_draft, fresh_work, gathering, going};
+ghost use Rattle.profile_install.specs.Package.{headed, heading, IsOutcome, is_element_due};
+ghost use Rattle.profile_install.specs.Package.{is_gathering, is_head, constructed_begins};
+ghost use Rattle.profile_install.specs.Package.{package_outcome, place_after, progress_after};
+ghost use Rattle.profile_install.specs.Package.{refused_at, step_settled, valued};
+ghost use Rattle.profile_install.specs.Package.{element_with_fault};
 
 use crate::state::{Awaited, Spot, State};
 use crate::{Draft, ElementFault, StepFault};

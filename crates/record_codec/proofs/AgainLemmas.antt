@@ -1,12 +1,16 @@
 -- What was written of a record is read again.
-use Rattle.std.proofs.Common.{◌≡◌, ℕ, ◌++◌, List, [], Some, Bool, true, false, refl, sym, ap, ◌∙◌, arith, append_assoc}
+use Rattle.std.proofs.Common.{◌≡◌, ℕ, ◌++◌, List, [], Some, Bool, true, false, refl, sym, ap, ◌∙◌}
+use Rattle.std.proofs.Common.{arith, append_assoc}
 use Rattle.std.specs.Prelude.{⊤}
 use Rattle.std.proofs.lemmas.List.{append-nil}
 use Rattle.file_rows.specs.declared.change.Change.{Change}
-use Rattle.file_rows.specs.declared.change.Change.TheVariants.{WriteRange, WriteRecord, PinSet, FileAdd, FileGone, FileState, FileSize}
+use Rattle.file_rows.specs.declared.change.Change.TheVariants.{WriteRange, WriteRecord, PinSet}
+use Rattle.file_rows.specs.declared.change.Change.TheVariants.{FileAdd, FileGone, FileState}
+use Rattle.file_rows.specs.declared.change.Change.TheVariants.{FileSize}
 use Rattle.file_rows.specs.declared.head.FileHead.{FileHead}
 use Rattle.file_rows.specs.declared.head.Kind.{Kind}
-use Rattle.file_rows.specs.declared.head.Kind.TheVariants.{Master, Directory, Application, Transparent, Linear, Cyclic}
+use Rattle.file_rows.specs.declared.head.Kind.TheVariants.{Master, Directory, Application}
+use Rattle.file_rows.specs.declared.head.Kind.TheVariants.{Transparent, Linear, Cyclic}
 use Rattle.file_rows.specs.declared.head.Life.{Life}
 use Rattle.file_rows.specs.declared.head.Life.TheVariants.{Active, Deactivated, Terminated}
 use Rattle.file_rows.specs.declared.row.FileRow.{FileRow}
@@ -15,12 +19,20 @@ use Rattle.notify_list.specs.declared.note.Operation.TheVariants.{Install, Enabl
 use Rattle.port_table.specs.declared.port_mode.PortMode.{PortMode}
 use Rattle.port_table.specs.declared.port_mode.PortMode.TheVariants.{A1, A2, B}
 use Rattle.record_codec.specs.Fields.{flag, flag_byte, number2, string}
-use Rattle.record_codec.specs.Reading.{◌>>=◌, Form, change_at, file_read, file_head_at, flag_of, form_at, head_from, kind_of, life_read, mode_of, note_at, one_at, operation_of, pin_read, profile_head_at, puk_at, record_read, rule_read, target_at}
-use Rattle.record_codec.specs.Sizes.{Codes, HasCoding, IsChange, HasFileSizes, IsFileHead, IsForm, IsNote, HasPinSizes, IsProfileHead, IsPuk, IsRule, IsTarget}
-use Rattle.record_codec.specs.Spelling.{coded_change, file, file_head, form, kind_byte, coded_life, mode_byte, note, operation_byte, pin, profile_head, puk, rule, spelling, target}
+use Rattle.record_codec.specs.Reading.{◌>>=◌, Form, change_at, file_read, file_head_at, flag_of}
+use Rattle.record_codec.specs.Reading.{form_at, head_from, kind_of, life_read, mode_of, note_at}
+use Rattle.record_codec.specs.Reading.{one_at, operation_of, pin_read, profile_head_at, puk_at}
+use Rattle.record_codec.specs.Reading.{record_read, rule_read, target_at}
+use Rattle.record_codec.specs.Sizes.{Codes, HasCoding, IsChange, HasFileSizes, IsFileHead, IsForm}
+use Rattle.record_codec.specs.Sizes.{IsNote, HasPinSizes, IsProfileHead, IsPuk, IsRule, IsTarget}
+use Rattle.record_codec.specs.Spelling.{coded_change, file, file_head, form, kind_byte, coded_life}
+use Rattle.record_codec.specs.Spelling.{mode_byte, note, operation_byte, pin, profile_head, puk}
+use Rattle.record_codec.specs.Spelling.{rule, spelling, target}
 use Rattle.record_codec.specs.declared.record.Record.{Record}
 use Rattle.record_codec.specs.declared.record.Record.TheVariants as records
-use Rattle.record_codec.proofs.FieldLemmas.{Again, both_again, byte_again, list_again, made_again, number2_again, number4_again, number8_again, one_again, option_again, path_again, plain_again, string_again}
+use Rattle.record_codec.proofs.FieldLemmas.{Again, both_again, byte_again, list_again, made_again}
+use Rattle.record_codec.proofs.FieldLemmas.{number2_again, number4_again, number8_again, one_again}
+use Rattle.record_codec.proofs.FieldLemmas.{option_again, path_again, plain_again, string_again}
 
 flag_back : (set : Bool) → flag_of (flag_byte set) ≡ Some set
 flag_back true = refl

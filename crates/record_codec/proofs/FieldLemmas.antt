@@ -1,15 +1,20 @@
 -- What was written is read again.
-use Rattle.std.proofs.Common.{◌≡◌, ℕ, suc, ◌^◌, ◌<◌, ◌≤◌, false, ltb, List, [], ◌∷◌, ◌++◌, length, Option, Some, None, refl, ap, ◌∙◌, append_assoc, arith}
+use Rattle.std.proofs.Common.{◌≡◌, ℕ, suc, ◌^◌, ◌<◌, ◌≤◌, false, ltb, List, [], ◌∷◌, ◌++◌, length}
+use Rattle.std.proofs.Common.{Option, Some, None, refl, ap, ◌∙◌, append_assoc, arith}
 use Rattle.std.specs.Prelude.{IfSome, ⊤}
 use Rattle.std.specs.Int.{Width, w16, w32, w64, byte_len, from_be_bytes, to_be_bytes}
 use Rattle.std.specs.List.{AllByRecursion, flat_map}
 use Rattle.std.proofs.lemmas.Bool.{le-ltb}
 use Rattle.std.proofs.lemmas.List.{take_at, drop_at, length-append}
 use Rattle.std.proofs.lemmas.List.Concat.{flat_map-cons}
-use Rattle.std.proofs.lemmas.Nat.{from_be_bytes-to_be_bytes_2, from_be_bytes-to_be_bytes_4, from_be_bytes-to_be_bytes_8}
-use Rattle.record_codec.specs.Fields.{◌&◌, byte, list, number2, number4, number8, option, path, plain, string}
-use Rattle.record_codec.specs.Reading.{Reader, both_at, byte_at, items_at, list_at, made_at, number_at, one_at, option_at, path_at, plain_at, string_at}
-use Rattle.record_codec.specs.Sizes.{IsByte, IsList, IsNumber2, IsNumber4, IsNumber8, IsPath, IsPlain, IsString}
+use Rattle.std.proofs.lemmas.Nat.{from_be_bytes-to_be_bytes_2, from_be_bytes-to_be_bytes_4}
+use Rattle.std.proofs.lemmas.Nat.{from_be_bytes-to_be_bytes_8}
+use Rattle.record_codec.specs.Fields.{◌&◌, byte, list, number2, number4, number8, option, path}
+use Rattle.record_codec.specs.Fields.{plain, string}
+use Rattle.record_codec.specs.Reading.{Reader, both_at, byte_at, items_at, list_at, made_at}
+use Rattle.record_codec.specs.Reading.{number_at, one_at, option_at, path_at, plain_at, string_at}
+use Rattle.record_codec.specs.Sizes.{IsByte, IsList, IsNumber2, IsNumber4, IsNumber8, IsPath}
+use Rattle.record_codec.specs.Sizes.{IsPlain, IsString}
 
 -- a value that was written is read again, whatever follows
 pub record Again {X : Type 0} (text : X → List ℕ) (fits : X → Type 0) (read : Reader X) : Type 0 where

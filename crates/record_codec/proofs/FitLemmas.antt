@@ -1,5 +1,6 @@
 -- Just when a card takes a record, by the kind of the record.
-use Rattle.std.proofs.Common.{◌≡◌, ◌≢◌, ◌↔◌, ℕ, ◌+◌, ◌<◌, Bool, true, false, cond, not, List, [], ◌∷◌, ◌++◌, filter, Option, Some, None, refl, sym, ap, subst, arith}
+use Rattle.std.proofs.Common.{◌≡◌, ◌≢◌, ◌↔◌, ℕ, ◌+◌, ◌<◌, Bool, true, false, cond, not, List, []}
+use Rattle.std.proofs.Common.{◌∷◌, ◌++◌, filter, Option, Some, None, refl, sym, ap, subst, arith}
 use Rattle.std.proofs.lemmas.List.{length-map, length-replicate, length_push}
 use Rattle.std.specs.List.{AllByRecursion}
 use Rattle.std.specs.Prelude.{IfSome, IsSomeAnd, option_and_then, slice_get}
@@ -8,7 +9,8 @@ use Rattle.file_rows.specs.Content.{IsValid}
 use Rattle.file_rows.specs.declared.change.Change.{Change}
 use Rattle.file_rows.specs.declared.content.Content.{Content}
 use Rattle.file_rows.proofs.EachLemmas.{each_weaker}
-use Rattle.file_rows.proofs.ListLemmas.{any_left, any_right, any_first, each_append, each_right, two_last, two_push}
+use Rattle.file_rows.proofs.ListLemmas.{any_left, any_right, any_first, each_append, each_right}
+use Rattle.file_rows.proofs.ListLemmas.{two_last, two_push}
 use Rattle.notify_list.specs.Notes.{NoteList}
 use Rattle.notify_list.specs.declared.note.Note.{Note}
 use Rattle.notify_list.specs.declared.note.Operation.TheVariants.{Install, Enable, Disable, Delete}
@@ -29,9 +31,13 @@ use Rattle.record_codec.specs.declared.profile.Profile.{Profile}
 use Rattle.record_codec.specs.declared.profile.ProfileHead.{ProfileHead}
 use Rattle.record_codec.specs.declared.record.Record.{Record}
 use Rattle.record_codec.specs.declared.record.Record.TheVariants as records
-use Rattle.record_codec.proofs.GrowLemmas.{Grows, displaced_is, grows_numbers, grows_of, grows_then, grows_where, head_is, notes_fit, notes_less}
-use Rattle.record_codec.proofs.HeldLemmas.{each_not, left_are, left_held, named_are, named_held, nickname_few, pairs_left, pairs_with, valid_left, valid_with}
-use Rattle.record_codec.proofs.PortLemmas.{bound_are, each_count, each_rule, none_stands, set_there, unbound_are, were_on}
+use Rattle.record_codec.proofs.GrowLemmas.{Grows, displaced_is, grows_numbers, grows_of, grows_then}
+use Rattle.record_codec.proofs.GrowLemmas.{grows_where, head_is, notes_fit, notes_less}
+use Rattle.record_codec.proofs.HeldLemmas.{each_not, left_are, left_held, named_are, named_held}
+use Rattle.record_codec.proofs.HeldLemmas.{nickname_few, pairs_left, pairs_with, valid_left}
+use Rattle.record_codec.proofs.HeldLemmas.{valid_with}
+use Rattle.record_codec.proofs.PortLemmas.{bound_are, each_count, each_rule, none_stands, set_there}
+use Rattle.record_codec.proofs.PortLemmas.{unbound_are, were_on}
 
 -- a new card
 fits_card : (durable : Durable) (mode : PortMode) (ports : ℕ) (eid : List ℕ) (next_number next_note : ℕ) (notes : List Note)

@@ -1,5 +1,7 @@
 -- Notifications that come to be pending, and those that go.
-use Rattle.std.proofs.Common.{◌≡◌, ◌↔◌, ◌⊎◌, ℕ, suc, ◌+◌, ◌≤◌, Bool, true, false, cond, not, nat_eq, List, [], ◌∷◌, length, filter, Option, Some, None, find, refl, subst, inl, inr, ⊎_elim, arith}
+use Rattle.std.proofs.Common.{◌≡◌, ◌↔◌, ◌⊎◌, ℕ, suc, ◌+◌, ◌≤◌, Bool, true, false, cond, not, nat_eq}
+use Rattle.std.proofs.Common.{List, [], ◌∷◌, length, filter, Option, Some, None, find, refl, subst}
+use Rattle.std.proofs.Common.{inl, inr, ⊎_elim, arith}
 use Rattle.std.proofs.lemmas.List.{length_push}
 use Rattle.std.specs.List.{AllByRecursion}
 use Rattle.std.specs.Prelude.{IfSome, option_and_then}
@@ -10,7 +12,8 @@ use Rattle.notify_list.proofs.NoteLemmas.{each_push, each_weaker, numbered_less,
 use Rattle.file_rows.proofs.ListLemmas.{each_filter, each_left, each_right, length-filter-le}
 use Rattle.record_codec.specs.Heads.{head_of}
 use Rattle.record_codec.specs.IsDurable.{AreNotes, IsAddress, IsHead}
-use Rattle.record_codec.specs.Noted.{count_of, count_of_each, count_where, names, noted, noted_each, noted_where, with_each}
+use Rattle.record_codec.specs.Noted.{count_of, count_of_each, count_where, names, noted, noted_each}
+use Rattle.record_codec.specs.Noted.{noted_where, with_each}
 use Rattle.record_codec.specs.declared.profile.NoteTarget.{NoteTarget}
 use Rattle.record_codec.specs.declared.profile.ProfileHead.{ProfileHead}
 

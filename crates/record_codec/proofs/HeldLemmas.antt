@@ -1,12 +1,15 @@
 -- The profiles of a card and their contents after a record.
-use Rattle.std.proofs.Common.{◌≡◌, ◌≢◌, ℕ, zero, suc, ◌<◌, ◌≤◌, Bool, true, false, cond, not, nat_eq, List, [], ◌∷◌, ◌++◌, length, map, filter, set, Option, Some, None, refl, sym, ◌∙◌, ap, subst, ⊎_elim, arith, eqb-true, eq-eqb}
+use Rattle.std.proofs.Common.{◌≡◌, ◌≢◌, ℕ, zero, suc, ◌<◌, ◌≤◌, Bool, true, false, cond, not}
+use Rattle.std.proofs.Common.{nat_eq, List, [], ◌∷◌, ◌++◌, length, map, filter, set, Option, Some}
+use Rattle.std.proofs.Common.{None, refl, sym, ◌∙◌, ap, subst, ⊎_elim, arith, eqb-true, eq-eqb}
 use Rattle.std.proofs.lemmas.List.{length-map}
 use Rattle.std.specs.List.{Any, AllByRecursion}
 use Rattle.std.specs.Prelude.{IsSomeAnd, slice_get}
 use Rattle.file_rows.specs.Content.{IsValid}
 use Rattle.file_rows.specs.declared.content.Content.{Content}
 use Rattle.file_rows.proofs.EachLemmas.{each_of_map, each_weaker, two_of_map, two_weaker}
-use Rattle.file_rows.proofs.ListLemmas.{any_cases, any_first, any_later, any_none, any_of_map, any_weaker, each_filter, length-filter-le, two_filter}
+use Rattle.file_rows.proofs.ListLemmas.{any_cases, any_first, any_later, any_none, any_of_map}
+use Rattle.file_rows.proofs.ListLemmas.{any_weaker, each_filter, length-filter-le, two_filter}
 use Rattle.plain_lists.specs.EachTwo.{EachTwo}
 use Rattle.record_codec.specs.Content.{contents_with}
 use Rattle.record_codec.specs.Gone.{contents_without, is_among}

@@ -1,12 +1,15 @@
 -- How long the coding of a record is.
-use Rattle.std.proofs.Common.{◌≡◌, ℕ, suc, ◌+◌, ◌*◌, ◌≤◌, List, [], ◌∷◌, length, Option, Some, None, refl, sym, ◌∙◌, ap, arith}
+use Rattle.std.proofs.Common.{◌≡◌, ℕ, suc, ◌+◌, ◌*◌, ◌≤◌, List, [], ◌∷◌, length, Option, Some, None}
+use Rattle.std.proofs.Common.{refl, sym, ◌∙◌, ap, arith}
 use Rattle.std.specs.List.{AllByRecursion, flat_map}
 use Rattle.std.specs.Prelude.{IfSome}
 use Rattle.std.proofs.lemmas.List.{length-append}
 use Rattle.std.proofs.lemmas.List.Sums.{sum_by-cons}
 use Rattle.file_rows.specs.Content.{IsValid, use_of}
 use Rattle.file_rows.specs.declared.change.Change.{Change}
-use Rattle.file_rows.specs.declared.change.Change.TheVariants.{WriteRange, WriteRecord, PinSet, FileAdd, FileGone, FileState, FileSize}
+use Rattle.file_rows.specs.declared.change.Change.TheVariants.{WriteRange, WriteRecord, PinSet}
+use Rattle.file_rows.specs.declared.change.Change.TheVariants.{FileAdd, FileGone, FileState}
+use Rattle.file_rows.specs.declared.change.Change.TheVariants.{FileSize}
 use Rattle.file_rows.specs.declared.head.FileHead.{FileHead}
 use Rattle.file_rows.specs.declared.head.Rule.{Rule}
 use Rattle.file_rows.specs.declared.pin.PinRow.{PinRow}
@@ -14,9 +17,13 @@ use Rattle.file_rows.specs.declared.pin.Puk.{Puk}
 use Rattle.file_rows.specs.declared.row.FileRow.{FileRow}
 use Rattle.notify_list.specs.declared.note.Note.{Note}
 use Rattle.record_codec.specs.FitsCard.{FitsCard}
-use Rattle.record_codec.specs.Fields.{◌&◌, byte, flag, list, number2, number4, number8, option, path, plain, string}
-use Rattle.record_codec.specs.Sizes.{HasCoding, HasFileSizes, HasPinSizes, IsChange, IsForm, IsNote, IsProfileHead, IsPuk, IsTarget}
-use Rattle.record_codec.specs.Spelling.{coded_change, coded_life, file, file_head, form, kind_byte, life, mode_byte, note, operation, pin, profile_head, puk, rule, spelling, target}
+use Rattle.record_codec.specs.Fields.{◌&◌, byte, flag, list, number2, number4, number8, option}
+use Rattle.record_codec.specs.Fields.{path, plain, string}
+use Rattle.record_codec.specs.Sizes.{HasCoding, HasFileSizes, HasPinSizes, IsChange, IsForm, IsNote}
+use Rattle.record_codec.specs.Sizes.{IsProfileHead, IsPuk, IsTarget}
+use Rattle.record_codec.specs.Spelling.{coded_change, coded_life, file, file_head, form, kind_byte}
+use Rattle.record_codec.specs.Spelling.{life, mode_byte, note, operation, pin, profile_head, puk}
+use Rattle.record_codec.specs.Spelling.{rule, spelling, target}
 use Rattle.record_codec.specs.declared.durable.Durable.{Durable}
 use Rattle.record_codec.specs.declared.profile.NoteTarget.{NoteTarget}
 use Rattle.record_codec.specs.declared.profile.ProfileHead.{ProfileHead}

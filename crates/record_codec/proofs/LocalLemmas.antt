@@ -1,5 +1,7 @@
 -- What a record leaves alone.
-use Rattle.std.proofs.Common.{◌≡◌, ℕ, Bool, true, false, cond, not, nat_eq, List, [], ◌∷◌, ◌++◌, length, map, filter, Option, Some, None, refl, sym, ◌∙◌, ap, arith, eqb-true}
+use Rattle.std.proofs.Common.{◌≡◌, ℕ, Bool, true, false, cond, not, nat_eq, List, [], ◌∷◌, ◌++◌}
+use Rattle.std.proofs.Common.{length, map, filter, Option, Some, None, refl, sym, ◌∙◌, ap, arith}
+use Rattle.std.proofs.Common.{eqb-true}
 use Rattle.file_rows.specs.declared.content.Content.{Content}
 use Rattle.record_codec.proofs.HeldLemmas.{differ_is, named_number}
 use Rattle.record_codec.specs.Apply.{apply}

@@ -1,11 +1,15 @@
 -- Profiles bound to a port and taken from theirs.
-use Rattle.std.proofs.Common.{◌≡◌, ◌≢◌, ◌⊎◌, ◌↔◌, ◌<◌, ◌+◌, ℕ, zero, suc, Bool, true, false, nat_eq, List, [], ◌∷◌, length, drop, get_or, set, replicate, Option, Some, None, refl, sym, ◌∙◌, ap, subst, inl, inr, ⊎_elim, arith, eqb-true, eq-eqb}
+use Rattle.std.proofs.Common.{◌≡◌, ◌≢◌, ◌⊎◌, ◌↔◌, ◌<◌, ◌+◌, ℕ, zero, suc, Bool, true, false, nat_eq}
+use Rattle.std.proofs.Common.{List, [], ◌∷◌, length, drop, get_or, set, replicate, Option, Some}
+use Rattle.std.proofs.Common.{None, refl, sym, ◌∙◌, ap, subst, inl, inr, ⊎_elim, arith, eqb-true}
+use Rattle.std.proofs.Common.{eq-eqb}
 use Rattle.std.specs.Prelude.{IfSome, slice_get}
 use Rattle.std.proofs.lemmas.Bool.{false≢true}
 use Rattle.std.proofs.lemmas.List.{length-set}
 use Rattle.std.proofs.lemmas.Option.{slice_get_within}
 use Rattle.file_rows.proofs.EachLemmas.{drop_item}
-use Rattle.port_table.specs.Ports.{HasProfiles, KeepsPortRule, MayBind, StandsNowhere, StandsOn, bound, unbound}
+use Rattle.port_table.specs.Ports.{HasProfiles, KeepsPortRule, MayBind, StandsNowhere, StandsOn}
+use Rattle.port_table.specs.Ports.{bound, unbound}
 use Rattle.port_table.specs.declared.ports.Ports.{Ports}
 use Rattle.port_table.proofs.PortLemmas.{nowhere, others, unbound_keeps}
 use Rattle.record_codec.specs.Gone.{is_among, unbound_each}

@@ -1,24 +1,38 @@
 -- What was read as a record is its coding.
-use Rattle.std.proofs.Common.{◌≡◌, ℕ, zero, suc, List, [], ◌∷◌, Some, None, Bool, true, false, refl, sym, ap, subst, ◌∙◌}
+use Rattle.std.proofs.Common.{◌≡◌, ℕ, zero, suc, List, [], ◌∷◌, Some, None, Bool, true, false, refl}
+use Rattle.std.proofs.Common.{sym, ap, subst, ◌∙◌}
 use Rattle.std.specs.Prelude.{Err, IsErrOf, ⊤}
 use Rattle.std.proofs.lemmas.List.{append-nil}
 use Rattle.file_rows.specs.declared.change.Change.{Change}
-use Rattle.file_rows.specs.declared.change.Change.TheVariants.{WriteRange, WriteRecord, PinSet, FileAdd, FileGone, FileState, FileSize}
+use Rattle.file_rows.specs.declared.change.Change.TheVariants.{WriteRange, WriteRecord, PinSet}
+use Rattle.file_rows.specs.declared.change.Change.TheVariants.{FileAdd, FileGone, FileState}
+use Rattle.file_rows.specs.declared.change.Change.TheVariants.{FileSize}
 use Rattle.file_rows.specs.declared.head.Kind.{Kind}
 use Rattle.file_rows.specs.declared.head.Life.{Life}
 use Rattle.notify_list.specs.declared.note.Operation.{Operation}
 use Rattle.port_table.specs.declared.port_mode.PortMode.{PortMode}
 use Rattle.record_codec.specs.Fields.{flag, flag_byte}
-use Rattle.record_codec.specs.Reading.{Form, Reader, change_at, change_of, file_read, file_head_at, flag_of, form_at, head_from, kind_of, life_read, made_at, mode_of, note_at, one_at, operation_of, pin_read, profile_head_at, puk_at, record_read, record_tagged, row_from, rule_read, target_at}
-use Rattle.record_codec.specs.Sizes.{Codes, HasCoding, IsChange, HasFileSizes, IsFileHead, IsForm, IsNote, HasPinSizes, IsProfileHead, IsPuk, IsRule, IsTarget}
-use Rattle.record_codec.specs.Spelling.{coded_change, file, file_head, form, kind_byte, life, coded_life, mode_byte, note, operation_byte, pin, profile_head, puk, rule, spelling, target}
+use Rattle.record_codec.specs.Reading.{Form, Reader, change_at, change_of, file_read, file_head_at}
+use Rattle.record_codec.specs.Reading.{flag_of, form_at, head_from, kind_of, life_read, made_at}
+use Rattle.record_codec.specs.Reading.{mode_of, note_at, one_at, operation_of, pin_read}
+use Rattle.record_codec.specs.Reading.{profile_head_at, puk_at, record_read, record_tagged}
+use Rattle.record_codec.specs.Reading.{row_from, rule_read, target_at}
+use Rattle.record_codec.specs.Sizes.{Codes, HasCoding, IsChange, HasFileSizes, IsFileHead, IsForm}
+use Rattle.record_codec.specs.Sizes.{IsNote, HasPinSizes, IsProfileHead, IsPuk, IsRule, IsTarget}
+use Rattle.record_codec.specs.Spelling.{coded_change, file, file_head, form, kind_byte, life}
+use Rattle.record_codec.specs.Spelling.{coded_life, mode_byte, note, operation_byte, pin}
+use Rattle.record_codec.specs.Spelling.{profile_head, puk, rule, spelling, target}
 use Rattle.record_codec.specs.Returns.{Fails}
 use Rattle.record_codec.specs.declared.fault.RecordFault.{RecordFault}
 use Rattle.record_codec.specs.declared.fault.RecordFault.TheVariants as faults
 use Rattle.record_codec.proofs.AgainLemmas.{whole_again}
 use Rattle.record_codec.specs.declared.record.Record.{Record}
 use Rattle.record_codec.specs.declared.record.Record.TheVariants as records
-use Rattle.record_codec.proofs.TakesLemmas.{IsBytes, IsBytes-rest, Taken, Takes, bind_some, both_taken, byte_taken, list_taken, made_taken, number2_taken, number4_taken, number8_taken, one_taken, option_taken, path_taken, plain_taken, same_some, string_taken}
+use Rattle.record_codec.proofs.TakesLemmas.{IsBytes, IsBytes-rest, Taken, Takes, bind_some}
+use Rattle.record_codec.proofs.TakesLemmas.{both_taken, byte_taken, list_taken, made_taken}
+use Rattle.record_codec.proofs.TakesLemmas.{number2_taken, number4_taken, number8_taken, one_taken}
+use Rattle.record_codec.proofs.TakesLemmas.{option_taken, path_taken, plain_taken, same_some}
+use Rattle.record_codec.proofs.TakesLemmas.{string_taken}
 
 flag_forth : (n : ℕ) (x : Bool) → flag_of n ≡ Some x → flag_byte x ≡ n
 flag_forth zero x e = ap flag_byte (sym (same_some false x e))

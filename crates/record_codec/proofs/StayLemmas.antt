@@ -1,5 +1,7 @@
 -- The heads, ports and notifications that a record leaves alone.
-use Rattle.std.proofs.Common.{◌≡◌, ◌≢◌, ◌↔◌, ℕ, zero, suc, Bool, true, false, cond, not, nat_eq, List, [], ◌∷◌, ◌++◌, map, filter, set, Option, Some, None, refl, sym, ◌∙◌, ap, inl, inr, ⊎_elim, arith, eqb-true}
+use Rattle.std.proofs.Common.{◌≡◌, ◌≢◌, ◌↔◌, ℕ, zero, suc, Bool, true, false, cond, not, nat_eq}
+use Rattle.std.proofs.Common.{List, [], ◌∷◌, ◌++◌, map, filter, set, Option, Some, None, refl, sym}
+use Rattle.std.proofs.Common.{◌∙◌, ap, inl, inr, ⊎_elim, arith, eqb-true}
 use Rattle.std.specs.Prelude.{option_and_then, slice_get}
 use Rattle.std.specs.List.{Contains}
 use Rattle.std.proofs.lemmas.Bool.{true≢false}

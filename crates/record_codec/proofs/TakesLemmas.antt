@@ -1,15 +1,22 @@
 -- What was read is what was written.
-use Rattle.std.proofs.Common.{◌≡◌, ℕ, zero, suc, ◌+◌, ◌^◌, ◌<◌, ◌≤◌, Bool, true, false, cond, ltb, List, [], ◌∷◌, ◌++◌, length, get_or, take, drop, Option, Some, None, refl, sym, ap, subst, ◌∙◌, append_assoc, arith, inl, inr}
+use Rattle.std.proofs.Common.{◌≡◌, ℕ, zero, suc, ◌+◌, ◌^◌, ◌<◌, ◌≤◌, Bool, true, false, cond, ltb}
+use Rattle.std.proofs.Common.{List, [], ◌∷◌, ◌++◌, length, get_or, take, drop, Option, Some, None}
+use Rattle.std.proofs.Common.{refl, sym, ap, subst, ◌∙◌, append_assoc, arith, inl, inr}
 use Rattle.std.specs.Prelude.{IfSome, ⊤}
 use Rattle.std.specs.Int.{Width, w16, w32, w64, byte_len, from_be_bytes, to_be_bytes}
 use Rattle.std.specs.List.{AllByRecursion, flat_map}
 use Rattle.std.proofs.lemmas.Bool.{cases_lt, ltb-false}
-use Rattle.std.proofs.lemmas.List.{take-append-drop, length-take, get_or-drop, get_or-take, get_or_past}
+use Rattle.std.proofs.lemmas.List.{take-append-drop, length-take, get_or-drop, get_or-take}
+use Rattle.std.proofs.lemmas.List.{get_or_past}
 use Rattle.std.proofs.lemmas.List.Concat.{flat_map-cons}
 use Rattle.std.proofs.lemmas.Nat.{be_bytes_2, be_bytes_4, be_bytes_8}
-use Rattle.record_codec.specs.Fields.{◌&◌, byte, list, number2, number4, number8, option, path, plain, string}
-use Rattle.record_codec.specs.Reading.{◌>>=◌, Reader, both_at, byte_at, items_at, list_at, made_at, number_at, one_at, option_at, path_at, plain_at, string_at, where_few}
-use Rattle.record_codec.specs.Sizes.{IsByte, IsList, IsNumber2, IsNumber4, IsNumber8, IsPath, IsPlain, IsString}
+use Rattle.record_codec.specs.Fields.{◌&◌, byte, list, number2, number4, number8, option, path}
+use Rattle.record_codec.specs.Fields.{plain, string}
+use Rattle.record_codec.specs.Reading.{◌>>=◌, Reader, both_at, byte_at, items_at, list_at, made_at}
+use Rattle.record_codec.specs.Reading.{number_at, one_at, option_at, path_at, plain_at, string_at}
+use Rattle.record_codec.specs.Reading.{where_few}
+use Rattle.record_codec.specs.Sizes.{IsByte, IsList, IsNumber2, IsNumber4, IsNumber8, IsPath}
+use Rattle.record_codec.specs.Sizes.{IsPlain, IsString}
 
 abbrev pub IsBytes : List ℕ → Type 0
 IsBytes bytes = (i : ℕ) → get_or bytes i 0 < 256

@@ -11,7 +11,9 @@ use Rattle.record_codec.specs.Unbind.{without_binding}
 use Rattle.record_codec.specs.declared.durable.Durable.{Durable}
 use Rattle.record_codec.specs.declared.durable.Heads.{Heads}
 use Rattle.record_codec.specs.declared.record.Record.{Record}
-use Rattle.record_codec.specs.declared.record.Record.TheVariants.{PutCard, PutProfile, Content, Bind, Unbind, Gone, Name, NoteGone}
+use Rattle.record_codec.specs.declared.record.Record.TheVariants.{PutCard, PutProfile, Content}
+use Rattle.record_codec.specs.declared.record.Record.TheVariants.{Bind, Unbind, Gone, Name}
+use Rattle.record_codec.specs.declared.record.Record.TheVariants.{NoteGone}
 
 -- what a card holds after a record
 abbrev pub apply : Durable → Record → Durable

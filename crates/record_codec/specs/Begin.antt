@@ -5,7 +5,9 @@ use Rattle.record_codec.specs.IsDurable.{IsDurable}
 use Rattle.record_codec.specs.Takes.{IsCard}
 use Rattle.record_codec.specs.declared.durable.Durable.{Durable}
 use Rattle.record_codec.specs.declared.record.Record.{Record}
-use Rattle.record_codec.specs.declared.record.Record.TheVariants.{PutCard, PutProfile, Content, Bind, Unbind, Gone, Name, NoteGone}
+use Rattle.record_codec.specs.declared.record.Record.TheVariants.{PutCard, PutProfile, Content}
+use Rattle.record_codec.specs.declared.record.Record.TheVariants.{Bind, Unbind, Gone, Name}
+use Rattle.record_codec.specs.declared.record.Record.TheVariants.{NoteGone}
 
 -- a card may begin with the record
 abbrev pub Begins : Record → Type 0

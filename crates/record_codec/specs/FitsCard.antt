@@ -10,7 +10,9 @@ use Rattle.record_codec.specs.PutProfile.{MayPutProfile}
 use Rattle.record_codec.specs.Unbind.{MayUnbind}
 use Rattle.record_codec.specs.declared.durable.Durable.{Durable}
 use Rattle.record_codec.specs.declared.record.Record.{Record}
-use Rattle.record_codec.specs.declared.record.Record.TheVariants.{PutCard, PutProfile, Content, Bind, Unbind, Gone, Name, NoteGone}
+use Rattle.record_codec.specs.declared.record.Record.TheVariants.{PutCard, PutProfile, Content}
+use Rattle.record_codec.specs.declared.record.Record.TheVariants.{Bind, Unbind, Gone, Name}
+use Rattle.record_codec.specs.declared.record.Record.TheVariants.{NoteGone}
 
 -- the card has what the record names, and hasn't what it puts
 abbrev pub NamesWhatIsHeld : Durable → Record → Type 0

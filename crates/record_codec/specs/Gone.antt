@@ -1,5 +1,6 @@
 -- Profiles that go.
-use Rattle.std.specs.Prelude.{ℕ, Bool, false, not, ◌≢◌, ◌==◌, ◌||◌, if◌then◌else◌, List, [], ◌∷◌, filter}
+use Rattle.std.specs.Prelude.{ℕ, Bool, false, not, ◌≢◌, ◌==◌, ◌||◌, if◌then◌else◌, List, [], ◌∷◌}
+use Rattle.std.specs.Prelude.{filter}
 use Rattle.std.specs.List.{AllByRecursion}
 use Rattle.notify_list.specs.declared.note.Operation.TheVariants.{Delete}
 use Rattle.plain_lists.specs.EachTwo.{EachTwo}

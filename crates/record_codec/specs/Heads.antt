@@ -1,5 +1,6 @@
 -- The profiles of a card, by their numbers.
-use Rattle.std.specs.Prelude.{ℕ, ◌≡◌, ◌==◌, if◌then◌else◌, List, [], ◌∷◌, Option, Some, None, find, Any}
+use Rattle.std.specs.Prelude.{ℕ, ◌≡◌, ◌==◌, if◌then◌else◌, List, [], ◌∷◌, Option, Some, None, find}
+use Rattle.std.specs.Prelude.{Any}
 use Rattle.file_rows.specs.declared.content.Content.{Content}
 use Rattle.record_codec.specs.declared.durable.Durable.{Durable}
 use Rattle.record_codec.specs.declared.profile.ProfileHead.{ProfileHead}

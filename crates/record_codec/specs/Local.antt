@@ -3,7 +3,9 @@ use Rattle.std.specs.Prelude.{ℕ, ◌≡◌, ◌⊎◌, Some, true, ⊤}
 use Rattle.notify_list.specs.declared.note.Note.{Note}
 use Rattle.record_codec.specs.Gone.{is_among}
 use Rattle.record_codec.specs.declared.record.Record.{Record}
-use Rattle.record_codec.specs.declared.record.Record.TheVariants.{PutCard, PutProfile, Content, Bind, Unbind, Gone, Name, NoteGone}
+use Rattle.record_codec.specs.declared.record.Record.TheVariants.{PutCard, PutProfile, Content}
+use Rattle.record_codec.specs.declared.record.Record.TheVariants.{Bind, Unbind, Gone, Name}
+use Rattle.record_codec.specs.declared.record.Record.TheVariants.{NoteGone}
 
 -- the content of that profile is what the record puts, changes or takes away
 abbrev pub TouchesContent : Record → ℕ → Type 0

@@ -1,6 +1,7 @@
 -- The notifications of what is done to a profile (GSMA SGP.22,
 -- NotificationConfigurationInformation).
-use Rattle.std.specs.Prelude.{ℕ, Bool, not, ◌==◌, ◌+◌, List, [], ◌∷◌, length, Option, Some, None, filter, bit_and}
+use Rattle.std.specs.Prelude.{ℕ, Bool, not, ◌==◌, ◌+◌, List, [], ◌∷◌, length, Option, Some, None}
+use Rattle.std.specs.Prelude.{filter, bit_and}
 use Rattle.notify_list.specs.Notes.{NoteList, with_note}
 use Rattle.notify_list.specs.declared.note.Operation.{Operation}
 use Rattle.notify_list.specs.declared.note.Operation.TheVariants.{Install, Enable, Disable, Delete}

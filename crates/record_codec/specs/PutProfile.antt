@@ -1,5 +1,6 @@
 -- One more profile.
-use Rattle.std.specs.Prelude.{ℕ, Bool, true, ◌≡◌, ◌+◌, if◌then◌else◌, ◌++◌, ◌∷◌, [], Option, Some, None, IfSome, slice_get}
+use Rattle.std.specs.Prelude.{ℕ, Bool, true, ◌≡◌, ◌+◌, if◌then◌else◌, ◌++◌, ◌∷◌, [], Option, Some}
+use Rattle.std.specs.Prelude.{None, IfSome, slice_get}
 use Rattle.notify_list.specs.declared.note.Operation.TheVariants.{Install}
 use Rattle.port_table.specs.Ports.{bound}
 use Rattle.port_table.specs.declared.ports.Ports.{Ports}

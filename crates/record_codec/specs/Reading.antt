@@ -1,11 +1,15 @@
 -- Reading from left to right: a value and the bytes behind it, or none.
-use Rattle.std.specs.Prelude.{ℕ, zero, suc, Bool, true, false, List, [], ◌∷◌, length, take, drop, nat_lt, if◌then◌else◌, Option, Some, None}
+use Rattle.std.specs.Prelude.{ℕ, zero, suc, Bool, true, false, List, [], ◌∷◌, length, take, drop}
+use Rattle.std.specs.Prelude.{nat_lt, if◌then◌else◌, Option, Some, None}
 use Rattle.std.specs.Int.{Width, w16, w32, w64, byte_len, from_be_bytes}
 use Rattle.file_rows.specs.declared.change.Change.{Change}
-use Rattle.file_rows.specs.declared.change.Change.TheVariants.{WriteRange, WriteRecord, PinSet, FileAdd, FileGone, FileState, FileSize}
+use Rattle.file_rows.specs.declared.change.Change.TheVariants.{WriteRange, WriteRecord, PinSet}
+use Rattle.file_rows.specs.declared.change.Change.TheVariants.{FileAdd, FileGone, FileState}
+use Rattle.file_rows.specs.declared.change.Change.TheVariants.{FileSize}
 use Rattle.file_rows.specs.declared.head.FileHead.{FileHead}
 use Rattle.file_rows.specs.declared.head.Kind.{Kind}
-use Rattle.file_rows.specs.declared.head.Kind.TheVariants.{Master, Directory, Application, Transparent, Linear, Cyclic}
+use Rattle.file_rows.specs.declared.head.Kind.TheVariants.{Master, Directory, Application}
+use Rattle.file_rows.specs.declared.head.Kind.TheVariants.{Transparent, Linear, Cyclic}
 use Rattle.file_rows.specs.declared.head.Life.{Life}
 use Rattle.file_rows.specs.declared.head.Life.TheVariants.{Active, Deactivated, Terminated}
 use Rattle.file_rows.specs.declared.head.Rule.{Rule}
@@ -232,7 +236,8 @@ record_tagged (suc (suc (suc zero))) bytes =
     made_at (λ x. records.Content x.0 x.1) (both_at (number_at w16) change_at) bytes
 record_tagged (suc (suc (suc (suc zero)))) bytes = made_at (λ x. records.Bind x.0 x.1.0 x.1.1)
     (both_at (number_at w16) (both_at byte_at (option_at (number_at w16)))) bytes
-record_tagged (suc (suc (suc (suc (suc zero))))) bytes = made_at records.Unbind (number_at w16) bytes
+record_tagged (suc (suc (suc (suc (suc zero))))) bytes =
+    made_at records.Unbind (number_at w16) bytes
 record_tagged (suc (suc (suc (suc (suc (suc zero)))))) bytes =
     made_at records.Gone (list_at 16 (number_at w16)) bytes
 record_tagged (suc (suc (suc (suc (suc (suc (suc zero))))))) bytes =

@@ -1,15 +1,20 @@
 -- The memory that a record needs.
-use Rattle.std.specs.Prelude.{ℕ, ◌≡◌, ◌≤◌, ◌+◌, List, [], length, replicate, vec_capacity, IsSomeAnd, ⊤}
+use Rattle.std.specs.Prelude.{ℕ, ◌≡◌, ◌≤◌, ◌+◌, List, [], length, replicate, vec_capacity}
+use Rattle.std.specs.Prelude.{IsSomeAnd, ⊤}
 use Rattle.file_rows.specs.Change.{resized}
 use Rattle.file_rows.specs.Content.{file_at}
 use Rattle.file_rows.specs.declared.change.Change.{Change}
-use Rattle.file_rows.specs.declared.change.Change.TheVariants.{WriteRange, WriteRecord, PinSet, FileAdd, FileGone, FileState, FileSize}
+use Rattle.file_rows.specs.declared.change.Change.TheVariants.{WriteRange, WriteRecord, PinSet}
+use Rattle.file_rows.specs.declared.change.Change.TheVariants.{FileAdd, FileGone, FileState}
+use Rattle.file_rows.specs.declared.change.Change.TheVariants.{FileSize}
 use Rattle.file_rows.specs.declared.content.Content as content
 use Rattle.file_rows.specs.declared.head.FileHead.{FileHead}
 use Rattle.record_codec.specs.Heads.{held_content}
 use Rattle.record_codec.specs.declared.durable.Durable.{Durable}
 use Rattle.record_codec.specs.declared.record.Record.{Record}
-use Rattle.record_codec.specs.declared.record.Record.TheVariants.{PutCard, PutProfile, Content, Bind, Unbind, Gone, Name, NoteGone}
+use Rattle.record_codec.specs.declared.record.Record.TheVariants.{PutCard, PutProfile, Content}
+use Rattle.record_codec.specs.declared.record.Record.TheVariants.{Bind, Unbind, Gone, Name}
+use Rattle.record_codec.specs.declared.record.Record.TheVariants.{NoteGone}
 use Rattle.record_codec.specs.declared.room.Kept.{Kept}
 use Rattle.record_codec.specs.declared.room.Kept.TheVariants.{Nothing, Profile, File, Body}
 use Rattle.record_codec.specs.declared.room.Room.{Room}

@@ -1,10 +1,13 @@
 -- Records as bytes, one line a kind.
 use Rattle.std.specs.Prelude.{ℕ, List}
 use Rattle.file_rows.specs.declared.change.Change.{Change}
-use Rattle.file_rows.specs.declared.change.Change.TheVariants.{WriteRange, WriteRecord, PinSet, FileAdd, FileGone, FileState, FileSize}
+use Rattle.file_rows.specs.declared.change.Change.TheVariants.{WriteRange, WriteRecord, PinSet}
+use Rattle.file_rows.specs.declared.change.Change.TheVariants.{FileAdd, FileGone, FileState}
+use Rattle.file_rows.specs.declared.change.Change.TheVariants.{FileSize}
 use Rattle.file_rows.specs.declared.head.FileHead.{FileHead}
 use Rattle.file_rows.specs.declared.head.Kind.{Kind}
-use Rattle.file_rows.specs.declared.head.Kind.TheVariants.{Master, Directory, Application, Transparent, Linear, Cyclic}
+use Rattle.file_rows.specs.declared.head.Kind.TheVariants.{Master, Directory, Application}
+use Rattle.file_rows.specs.declared.head.Kind.TheVariants.{Transparent, Linear, Cyclic}
 use Rattle.file_rows.specs.declared.head.Life.{Life}
 use Rattle.file_rows.specs.declared.head.Life.TheVariants.{Active, Deactivated, Terminated}
 use Rattle.file_rows.specs.declared.head.Rule.{Rule}
@@ -16,7 +19,8 @@ use Rattle.notify_list.specs.declared.note.Operation.{Operation}
 use Rattle.notify_list.specs.declared.note.Operation.TheVariants.{Install, Enable, Disable, Delete}
 use Rattle.port_table.specs.declared.port_mode.PortMode.{PortMode}
 use Rattle.port_table.specs.declared.port_mode.PortMode.TheVariants.{A1, A2, B}
-use Rattle.record_codec.specs.Fields.{◌&◌, byte, flag, list, number2, number4, number8, option, path, plain, string}
+use Rattle.record_codec.specs.Fields.{◌&◌, byte, flag, list, number2, number4, number8, option}
+use Rattle.record_codec.specs.Fields.{path, plain, string}
 use Rattle.record_codec.specs.declared.profile.NoteTarget.{NoteTarget}
 use Rattle.record_codec.specs.declared.profile.ProfileHead.{ProfileHead}
 use Rattle.record_codec.specs.declared.record.Record.{Record}

@@ -1,5 +1,6 @@
 -- What each kind of record needs of what a card holds, so that the card takes it.
-use Rattle.std.specs.Prelude.{ℕ, Bool, true, false, ◌≡◌, ◌≢◌, ◌≤◌, ◌<◌, ◌+◌, List, length, Option, Some, None, option_and_then, IfSome, slice_get, ⊤}
+use Rattle.std.specs.Prelude.{ℕ, Bool, true, false, ◌≡◌, ◌≢◌, ◌≤◌, ◌<◌, ◌+◌, List, length, Option}
+use Rattle.std.specs.Prelude.{Some, None, option_and_then, IfSome, slice_get, ⊤}
 use Rattle.std.specs.List.{AllByRecursion}
 use Rattle.file_rows.specs.Content.{IsValid}
 use Rattle.notify_list.specs.Notes.{HasNoteRoom}
@@ -16,7 +17,9 @@ use Rattle.record_codec.specs.declared.durable.Durable.{Durable}
 use Rattle.record_codec.specs.declared.durable.Heads.{Heads}
 use Rattle.record_codec.specs.declared.profile.ProfileHead.{ProfileHead}
 use Rattle.record_codec.specs.declared.record.Record.{Record}
-use Rattle.record_codec.specs.declared.record.Record.TheVariants.{PutCard, PutProfile, Content, Bind, Unbind, Gone, Name, NoteGone}
+use Rattle.record_codec.specs.declared.record.Record.TheVariants.{PutCard, PutProfile, Content}
+use Rattle.record_codec.specs.declared.record.Record.TheVariants.{Bind, Unbind, Gone, Name}
+use Rattle.record_codec.specs.declared.record.Record.TheVariants.{NoteGone}
 
 -- a card may have so many ports, and these notifications
 pub record IsCard (mode : PortMode) (ports next_note : ℕ) (notes : List Note) : Type 0 where

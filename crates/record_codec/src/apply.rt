@@ -1,5 +1,6 @@
 // Carrying out a record.
-ghost use Rattle.std.specs.Prelude.{◌≡◌, ◌≢◌, ◌<◌, ◌+◌, ◌++◌, ◌∷◌, [], if◌then◌else◌, length, take, drop, IsSomeAnd, slice_get, slice_set, vec_capacity};
+ghost use Rattle.std.specs.Prelude.{◌≡◌, ◌≢◌, ◌<◌, ◌+◌, ◌++◌, ◌∷◌, [], if◌then◌else◌, length, take};
+ghost use Rattle.std.specs.Prelude.{drop, IsSomeAnd, slice_get, slice_set, vec_capacity};
 ghost use Rattle.plain_lists.specs.EachTwo.{EachTwo};
 ghost use Rattle.file_rows.specs.Change.{Fits, changed};
 ghost use Rattle.file_rows.specs.Content.{IsValid};

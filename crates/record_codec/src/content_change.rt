@@ -1,5 +1,6 @@
 // A change of a content, made where the content lies.
-ghost use Rattle.std.specs.Prelude.{◌≡◌, ◌≢◌, ◌<◌, ◌++◌, ◌∷◌, ◌==◌, [], if◌then◌else◌, not, filter, length, IsSomeAnd, slice_get, slice_set};
+ghost use Rattle.std.specs.Prelude.{◌≡◌, ◌≢◌, ◌<◌, ◌++◌, ◌∷◌, ◌==◌, [], if◌then◌else◌, not, filter};
+ghost use Rattle.std.specs.Prelude.{length, IsSomeAnd, slice_get, slice_set};
 ghost use Rattle.plain_lists.specs.EachTwo.{EachTwo};
 ghost use Rattle.file_rows.specs.Change.{Fits, changed, file_after, new_file, with_file, with_pin};
 ghost use Rattle.file_rows.specs.Content.{IsValid, file_at, heads_of};

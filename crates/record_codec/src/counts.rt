@@ -1,7 +1,8 @@
 // How many notifications what is done to profiles makes.
 ghost use Rattle.std.specs.Prelude.{◌≡◌, ◌≤◌, ◌↔◌, None, Some, IfNone, IfSome, IsTrue};
 ghost use Rattle.record_codec.specs.Heads.{IsHeld, head_of};
-ghost use Rattle.record_codec.specs.Noted.{count_of, count_of_each, count_where, names, operation_bit};
+ghost use Rattle.record_codec.specs.Noted.{count_of, count_of_each, count_where, names};
+ghost use Rattle.record_codec.specs.Noted.{operation_bit};
 
 use crate::{NoteTarget, Numbers, ProfileHead};
 use notify_list::Operation;

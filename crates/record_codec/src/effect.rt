@@ -1,7 +1,10 @@
 // What a record does to all that a card holds beside the contents.
-ghost use Rattle.std.specs.Prelude.{◌≡◌, ◌≤◌, ◌<◌, ◌+◌, ◌++◌, ◌∷◌, [], None, Some, true, not, filter, map, if◌then◌else◌, IfSome, length, replicate, slice_get, slice_set, option_and_then};
+ghost use Rattle.std.specs.Prelude.{◌≡◌, ◌≤◌, ◌<◌, ◌+◌, ◌++◌, ◌∷◌, [], None, Some, true, not};
+ghost use Rattle.std.specs.Prelude.{filter, map, if◌then◌else◌, IfSome, length, replicate};
+ghost use Rattle.std.specs.Prelude.{slice_get, slice_set, option_and_then};
 ghost use Rattle.notify_list.specs.Notes.{HasNoteRoom, NoteList, without};
-ghost use Rattle.notify_list.specs.declared.note.Operation.TheVariants.{Install, Enable, Disable, Delete};
+ghost use Rattle.notify_list.specs.declared.note.Operation.TheVariants.{Install, Enable, Disable};
+ghost use Rattle.notify_list.specs.declared.note.Operation.TheVariants.{Delete};
 ghost use Rattle.port_table.specs.Ports.{MayBind, bound, unbound};
 ghost use Rattle.record_codec.specs.Apply.{heads_after};
 ghost use Rattle.record_codec.specs.Bind.{with_binding};
@@ -11,7 +14,8 @@ ghost use Rattle.record_codec.specs.IsDurable.{AreHeads};
 ghost use Rattle.record_codec.specs.Name.{named};
 ghost use Rattle.record_codec.specs.Noted.{count_of, noted, noted_each, noted_where};
 ghost use Rattle.record_codec.specs.PutProfile.{bound_where};
-ghost use Rattle.record_codec.specs.Takes.{AreGoing, IsBinding, IsNewProfile, IsUnbinding, TakesHeads};
+ghost use Rattle.record_codec.specs.Takes.{AreGoing, IsBinding, IsNewProfile, IsUnbinding};
+ghost use Rattle.record_codec.specs.Takes.{TakesHeads};
 
 use crate::noting::{note, note_at, note_binding, note_each};
 use crate::{Heads, Label, Numbers, ProfileHead, ProfileList, Record};

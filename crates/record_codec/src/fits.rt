@@ -1,5 +1,6 @@
 // Whether a record fits what a card holds.
-ghost use Rattle.std.specs.Prelude.{◌≡◌, ◌≢◌, ◌<◌, ◌↔◌, None, Some, IfNone, IfSome, IsSomeAnd, IsTrue, length, slice_get};
+ghost use Rattle.std.specs.Prelude.{◌≡◌, ◌≢◌, ◌<◌, ◌↔◌, None, Some, IfNone, IfSome, IsSomeAnd};
+ghost use Rattle.std.specs.Prelude.{IsTrue, length, slice_get};
 ghost use Rattle.plain_lists.specs.EachTwo.{EachTwo};
 ghost use Rattle.record_codec.specs.Content.{MayChange};
 ghost use Rattle.record_codec.specs.FitsCard.{FitsCard};

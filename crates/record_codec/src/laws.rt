@@ -1,4 +1,5 @@
-ghost use Rattle.std.specs.Prelude.{◌≡◌, ◌≢◌, ◌<◌, ◌≤◌, ◌↔◌, [], Some, Contains, slice_index_or, ℕ, List, length};
+ghost use Rattle.std.specs.Prelude.{◌≡◌, ◌≢◌, ◌<◌, ◌≤◌, ◌↔◌, [], Some, Contains, slice_index_or, ℕ};
+ghost use Rattle.std.specs.Prelude.{List, length};
 ghost use Rattle.file_rows.specs.declared.change.Change.{Change};
 ghost use Rattle.notify_list.specs.declared.note.Note.{Note};
 ghost use Rattle.port_table.specs.Ports.{StandsOn};

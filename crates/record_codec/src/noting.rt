@@ -5,7 +5,8 @@ ghost use Rattle.notify_list.specs.Notes.{HasNoteRoom};
 ghost use Rattle.notify_list.specs.declared.note.Operation.TheVariants.{Enable, Disable};
 ghost use Rattle.record_codec.specs.Heads.{head_of};
 ghost use Rattle.record_codec.specs.IsDurable.{IsHead};
-ghost use Rattle.record_codec.specs.Noted.{count_of, count_of_each, count_where, noted, noted_each, noted_where};
+ghost use Rattle.record_codec.specs.Noted.{count_of, count_of_each, count_where, noted, noted_each};
+ghost use Rattle.record_codec.specs.Noted.{noted_where};
 
 use crate::counts::{head_of, names};
 use crate::{Numbers, ProfileHead};

@@ -2,8 +2,12 @@
 ghost use Rattle.std.specs.Prelude.{◌≡◌, ◌<◌, ◌≤◌, ◌^◌, length, take, IfSome, Option};
 ghost use Rattle.std.specs.List.{AllByRecursion, flat_map};
 ghost use Rattle.record_codec.specs.Fields.{◌&◌, byte, list, number2, option, path, string};
-ghost use Rattle.record_codec.specs.Sizes.{IsByte, IsChange, HasFileSizes, IsFileHead, IsForm, IsList, IsNote, IsNumber2, IsPath, HasPinSizes, IsProfileHead, IsPuk, IsRule, IsString, IsTarget};
-ghost use Rattle.record_codec.specs.Spelling.{coded_change, file, file_head, form, kind, kind_byte, life, coded_life, mode, mode_byte, note, operation, operation_byte, pin, profile_head, puk, rule, target};
+ghost use Rattle.record_codec.specs.Sizes.{IsByte, IsChange, HasFileSizes, IsFileHead, IsForm};
+ghost use Rattle.record_codec.specs.Sizes.{IsList, IsNote, IsNumber2, IsPath, HasPinSizes};
+ghost use Rattle.record_codec.specs.Sizes.{IsProfileHead, IsPuk, IsRule, IsString, IsTarget};
+ghost use Rattle.record_codec.specs.Spelling.{coded_change, file, file_head, form, kind, kind_byte};
+ghost use Rattle.record_codec.specs.Spelling.{life, coded_life, mode, mode_byte, note, operation};
+ghost use Rattle.record_codec.specs.Spelling.{operation_byte, pin, profile_head, puk, rule, target};
 ghost use Rattle.record_codec.specs.Window.{Puts};
 
 use crate::window::{Place, put, put_byte, put_flag, put_number2, put_number4, put_string};

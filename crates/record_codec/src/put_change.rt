@@ -1,6 +1,7 @@
 // Changes of a content as bytes.
 ghost use Rattle.record_codec.specs.Fields.{◌&◌, byte, number2, path, string};
-ghost use Rattle.record_codec.specs.Sizes.{IsByte, IsChange, IsFileHead, IsNumber2, IsPath, HasPinSizes, IsString};
+ghost use Rattle.record_codec.specs.Sizes.{IsByte, IsChange, IsFileHead, IsNumber2, IsPath};
+ghost use Rattle.record_codec.specs.Sizes.{HasPinSizes, IsString};
 ghost use Rattle.record_codec.specs.Spelling.{coded_change, file_head, life, pin};
 ghost use Rattle.record_codec.specs.Window.{Puts};
 

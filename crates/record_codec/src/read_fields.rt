@@ -2,7 +2,9 @@
 ghost use Rattle.std.specs.Prelude.{◌≡◌, ◌<◌, ◌≤◌, ◌^◌, length, IfOk};
 ghost use Rattle.std.specs.Int.{w16, w32, w64};
 ghost use Rattle.record_codec.specs.Returns.{Returns};
-ghost use Rattle.record_codec.specs.Reading.{byte_at, flag_of, items_at, kind_of, life_read, mode_of, number_at, one_at, operation_of, option_at, path_at, plain_at, rule_read, string_at};
+ghost use Rattle.record_codec.specs.Reading.{byte_at, flag_of, items_at, kind_of, life_read};
+ghost use Rattle.record_codec.specs.Reading.{mode_of, number_at, one_at, operation_of, option_at};
+ghost use Rattle.record_codec.specs.Reading.{path_at, plain_at, rule_read, string_at};
 
 use crate::RecordFault;
 use file_rows::{Kind, Life, Path, Rule};

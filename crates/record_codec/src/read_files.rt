@@ -2,7 +2,11 @@
 ghost use Rattle.std.specs.Prelude.{◌≡◌, ◌≤◌, length};
 ghost use Rattle.std.specs.Int.{w16};
 ghost use Rattle.record_codec.specs.Returns.{Returns};
-ghost use Rattle.record_codec.specs.Reading.{byte_at, change_at, change_of, file_read, file_head_at, head_from, form_at, items_at, kind_of, life_read, number_at, one_at, option_at, parts_of, path_at, pin_read, plain_at, puk_at, row_from, rule_read};
+ghost use Rattle.record_codec.specs.Reading.{byte_at, change_at, change_of, file_read};
+ghost use Rattle.record_codec.specs.Reading.{file_head_at, head_from, form_at, items_at, kind_of};
+ghost use Rattle.record_codec.specs.Reading.{life_read, number_at, one_at, option_at, parts_of};
+ghost use Rattle.record_codec.specs.Reading.{path_at, pin_read, plain_at, puk_at, row_from};
+ghost use Rattle.record_codec.specs.Reading.{rule_read};
 
 use crate::RecordFault;
 use crate::read_fields::{byte_of, flag_of, number2_of, plain_of, string_of, text_of};

@@ -2,7 +2,10 @@
 ghost use Rattle.std.specs.Prelude.{◌≡◌, ◌≤◌, ◌⊎◌, [], Some, IfOk, IsErrOf};
 ghost use Rattle.std.specs.Int.{w16};
 ghost use Rattle.record_codec.specs.Returns.{Returns};
-ghost use Rattle.record_codec.specs.Reading.{byte_at, file_read, items_at, list_at, mode_of, note_at, number_at, one_at, operation_of, option_at, pin_read, plain_at, profile_head_at, record_read, record_tagged, target_at};
+ghost use Rattle.record_codec.specs.Reading.{byte_at, file_read, items_at, list_at, mode_of};
+ghost use Rattle.record_codec.specs.Reading.{note_at, number_at, one_at, operation_of, option_at};
+ghost use Rattle.record_codec.specs.Reading.{pin_read, plain_at, profile_head_at, record_read};
+ghost use Rattle.record_codec.specs.Reading.{record_tagged, target_at};
 ghost use Rattle.record_codec.specs.Sizes.{Codes};
 ghost use Rattle.record_codec.specs.declared.record.Record.{Record};
 

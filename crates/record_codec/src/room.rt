@@ -7,7 +7,8 @@ ghost use Rattle.record_codec.specs.Content.{MayChange};
 ghost use Rattle.record_codec.specs.FitsCard.{FitsCard};
 ghost use Rattle.record_codec.specs.Heads.{held_content};
 ghost use Rattle.record_codec.specs.IsDurable.{IsDurable};
-ghost use Rattle.record_codec.specs.Room.{GrowsContent, IsKeptFor, IsRoomFor, KeepsBody, KeepsChange, KeepsFile, KeepsProfile, NeedsMemory};
+ghost use Rattle.record_codec.specs.Room.{GrowsContent, IsKeptFor, IsRoomFor, KeepsBody};
+ghost use Rattle.record_codec.specs.Room.{KeepsChange, KeepsFile, KeepsProfile, NeedsMemory};
 
 use crate::fits::content_of;
 use crate::rows::{row_in, row_of};

@@ -1,5 +1,6 @@
 // The file of a path among others.
-ghost use Rattle.std.specs.Prelude.{◌≡◌, ◌<◌, None, Some, IfNone, IfSome, IsSomeAnd, length, slice_get};
+ghost use Rattle.std.specs.Prelude.{◌≡◌, ◌<◌, None, Some, IfNone, IfSome, IsSomeAnd, length};
+ghost use Rattle.std.specs.Prelude.{slice_get};
 ghost use Rattle.file_rows.specs.Content.{file_at};
 ghost use Rattle.file_rows.specs.Path.{same_path};
 

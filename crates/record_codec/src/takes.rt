@@ -1,17 +1,20 @@
 // Whether a card takes a record, by what the record names.
-ghost use Rattle.std.specs.Prelude.{◌≡◌, ◌≢◌, ◌≤◌, ◌<◌, ◌+◌, ◌↔◌, true, false, ℕ, None, Some, IfSome, IsSomeAnd, IsTrue, length, slice_get, option_and_then};
+ghost use Rattle.std.specs.Prelude.{◌≡◌, ◌≢◌, ◌≤◌, ◌<◌, ◌+◌, ◌↔◌, true, false, ℕ, None, Some};
+ghost use Rattle.std.specs.Prelude.{IfSome, IsSomeAnd, IsTrue, length, slice_get, option_and_then};
 ghost use Rattle.std.specs.List.{AllByRecursion};
 ghost use Rattle.file_rows.specs.Change.{Fits};
 ghost use Rattle.file_rows.specs.Content.{IsValid};
 ghost use Rattle.notify_list.specs.Notes.{HasNoteRoom};
-ghost use Rattle.notify_list.specs.declared.note.Operation.TheVariants.{Install, Enable, Disable, Delete};
+ghost use Rattle.notify_list.specs.declared.note.Operation.TheVariants.{Install, Enable, Disable};
+ghost use Rattle.notify_list.specs.declared.note.Operation.TheVariants.{Delete};
 ghost use Rattle.plain_lists.specs.EachTwo.{EachTwo};
 ghost use Rattle.port_table.specs.Ports.{HasProfiles, StandsNowhere, StandsOn, holds};
 ghost use Rattle.record_codec.specs.Heads.{IsHeld, content_at, head_of};
 ghost use Rattle.record_codec.specs.IsDurable.{IsAddress, IsDurable, IsHead, fewest_ports};
 ghost use Rattle.record_codec.specs.FitsCard.{FitsCard};
 ghost use Rattle.record_codec.specs.Noted.{count_of, count_of_each, count_where};
-ghost use Rattle.record_codec.specs.Takes.{AreGoing, IsBinding, IsCard, IsFreePort, IsNewProfile, IsUnbinding, TakesContent, TakesHeads};
+ghost use Rattle.record_codec.specs.Takes.{AreGoing, IsBinding, IsCard, IsFreePort, IsNewProfile};
+ghost use Rattle.record_codec.specs.Takes.{IsUnbinding, TakesContent, TakesHeads};
 
 use crate::counts::{count_at, count_of, count_of_each, is_held};
 use crate::notes_fit::{are_notes, is_address};

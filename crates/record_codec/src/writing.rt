@@ -1,10 +1,16 @@
 // Records as bytes, from any place on.
-ghost use Rattle.std.specs.Prelude.{◌≡◌, ◌≤◌, ◌<◌, ◌-◌, ◌^◌, ◌++◌, length, take, drop, min, false, IfSome};
+ghost use Rattle.std.specs.Prelude.{◌≡◌, ◌≤◌, ◌<◌, ◌-◌, ◌^◌, ◌++◌, length, take, drop, min, false};
+ghost use Rattle.std.specs.Prelude.{IfSome};
 ghost use Rattle.std.specs.List.{AllByRecursion, flat_map};
-ghost use Rattle.record_codec.specs.Fields.{◌&◌, byte, flag, list, number2, number4, number8, option, plain, string};
+ghost use Rattle.record_codec.specs.Fields.{◌&◌, byte, flag, list, number2, number4, number8};
+ghost use Rattle.record_codec.specs.Fields.{option, plain, string};
 ghost use Rattle.record_codec.specs.Pooled.{files_pooled};
-ghost use Rattle.record_codec.specs.Sizes.{Codes, HasCoding, HasSizes, IsByte, IsChange, HasFileSizes, IsList, IsNote, IsNumber2, IsNumber4, IsNumber8, HasPinSizes, IsPlain, IsProfileHead, IsString};
-ghost use Rattle.record_codec.specs.Spelling.{coded_change, file, mode, note, pin, profile_head, spelling};
+ghost use Rattle.record_codec.specs.Sizes.{Codes, HasCoding, HasSizes, IsByte, IsChange};
+ghost use Rattle.record_codec.specs.Sizes.{HasFileSizes, IsList, IsNote, IsNumber2, IsNumber4};
+ghost use Rattle.record_codec.specs.Sizes.{IsNumber8, HasPinSizes, IsPlain, IsProfileHead};
+ghost use Rattle.record_codec.specs.Sizes.{IsString};
+ghost use Rattle.record_codec.specs.Spelling.{coded_change, file, mode, note, pin, profile_head};
+ghost use Rattle.record_codec.specs.Spelling.{spelling};
 ghost use Rattle.record_codec.specs.Window.{Puts};
 
 use crate::pooled::put_pooled_list;

@@ -1,5 +1,6 @@
 -- A script of commands at port 1 alone isn't cut.
-use Rattle.std.proofs.Common.{◌≡◌, ℕ, ◌+◌, ◌≤◌, ◌==◌, Bool, true, false, cond, List, [], ◌∷◌, map, length, IsTrue, refl, sym, ap, ◌∙◌, subst, arith, inl, inr}
+use Rattle.std.proofs.Common.{◌≡◌, ℕ, ◌+◌, ◌≤◌, ◌==◌, Bool, true, false, cond, List, [], ◌∷◌, map}
+use Rattle.std.proofs.Common.{length, IsTrue, refl, sym, ap, ◌∙◌, subst, arith, inl, inr}
 use Rattle.std.specs.Prelude.{count_by}
 use Rattle.std.specs.List.{AllByRecursion, flat_map, onto_first, slice_split}
 use Rattle.std.specs.Option.{option_map_or}
@@ -15,7 +16,9 @@ use Rattle.card_core.specs.declared.script.Statement.{Statement}
 use Rattle.script_text.specs.Commands.{AreCommandsAt, IsCommandScript, uncut_script}
 use Rattle.script_text.specs.Line.{is_admitted, is_command_at}
 use Rattle.script_text.specs.Ports.{statements_of}
-use Rattle.script_text.specs.Script.{HasFewStatements, HaveItems, IsScript, event_port, is_at, is_phase_end, is_section_end, phase_of, script_of, section_of, statement_in}
+use Rattle.script_text.specs.Script.{HasFewStatements, HaveItems, IsScript, event_port, is_at}
+use Rattle.script_text.specs.Script.{is_phase_end, is_section_end, phase_of, script_of, section_of}
+use Rattle.script_text.specs.Script.{statement_in}
 use Rattle.script_text.specs.Item.{Item}
 use Rattle.script_text.specs.Item.Item.{Stated, PhaseEnd, SectionEnd}
 use Rattle.script_text.specs.declared.line_set.LineSet.TheVariants.{PortOne}

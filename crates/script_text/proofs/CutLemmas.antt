@@ -1,12 +1,15 @@
 -- What the items of a script come to, one after another, is the script that is cut at `power` and `phase`.
-use Rattle.std.proofs.Common.{◌≡◌, List, [], ◌∷◌, ◌++◌, map, refl, sym, ap, ◌∙◌, subst, append_assoc}
+use Rattle.std.proofs.Common.{◌≡◌, List, [], ◌∷◌, ◌++◌, map, refl, sym, ap, ◌∙◌, subst}
+use Rattle.std.proofs.Common.{append_assoc}
 use Rattle.std.specs.List.{slice_split, flat_map, fold}
 use Rattle.std.proofs.lemmas.List.{append-nil, map_push, flat_map_more}
 use Rattle.card_core.specs.declared.script.Phase.{Phase}
 use Rattle.card_core.specs.declared.script.Section.{Section}
 use Rattle.card_core.specs.declared.script.Statement.{Statement}
-use Rattle.script_text.specs.Draft.{OpenScript, empty_script, finished, open_phase, open_section, with_item}
-use Rattle.script_text.specs.Script.{is_phase_end, is_section_end, phase_of, script_of, section_of, statement_in}
+use Rattle.script_text.specs.Draft.{OpenScript, empty_script, finished, open_phase, open_section}
+use Rattle.script_text.specs.Draft.{with_item}
+use Rattle.script_text.specs.Script.{is_phase_end, is_section_end, phase_of, script_of, section_of}
+use Rattle.script_text.specs.Script.{statement_in}
 use Rattle.script_text.specs.Item.{Item}
 use Rattle.script_text.specs.Item.Item.{Stated, PhaseEnd, SectionEnd}
 use Rattle.script_text.proofs.SplitLemmas.{slice_split_push_yes, slice_split_push_no}

@@ -1,5 +1,6 @@
 -- Each line is passed over, says something or is faulty, and so each text is a script or has a first fault.
-use Rattle.std.proofs.Common.{◌≡◌, ◌≢◌, ℕ, ◌+◌, ◌-◌, ◌<◌, ◌≤◌, ◌⊎◌, true, List, [], ◌∷◌, length, codes, Result, Ok, Err, refl, sym, ap, ◌∙◌, subst, arith, inl, inr}
+use Rattle.std.proofs.Common.{◌≡◌, ◌≢◌, ℕ, ◌+◌, ◌-◌, ◌<◌, ◌≤◌, ◌⊎◌, true, List, [], ◌∷◌, length}
+use Rattle.std.proofs.Common.{codes, Result, Ok, Err, refl, sym, ap, ◌∙◌, subst, arith, inl, inr}
 use Rattle.std.specs.Str.{bytes_eq}
 use Rattle.std.specs.Str.Lines.{lines}
 use Rattle.std.proofs.lemmas.Bool.{cases_Bool, cases_eq, cases_lt, both_ways}
@@ -11,7 +12,8 @@ use Rattle.card_core.specs.declared.event.Event.TheVariants.{Apdu, Reset, Load, 
 use Rattle.card_core.specs.declared.event.LoadStep.{LoadStep}
 use Rattle.card_core.specs.declared.event.LoadStep.TheVariants.{Begin, Piece, End}
 use Rattle.card_core.specs.declared.script.Statement.{Statement}
-use Rattle.script_text.specs.Draft.{HasRoomIfStated, IsFull, NamesPortIfStated, OpenScript, empty_script, finished, open_section, with_item}
+use Rattle.script_text.specs.Draft.{HasRoomIfStated, IsFull, NamesPortIfStated, OpenScript}
+use Rattle.script_text.specs.Draft.{empty_script, finished, open_section, with_item}
 use Rattle.script_text.specs.Line.{IsLine, Says, is_admitted}
 use Rattle.script_text.specs.Script.{IsScriptOrFaulty, count_at, line_of_byte}
 use Rattle.script_text.specs.Statement.{IsHex, IsPort, IsStatement, IsStep, SpellsWithin}
@@ -22,7 +24,9 @@ use Rattle.script_text.specs.Item.Item.{Stated, PhaseEnd, SectionEnd}
 use Rattle.script_text.specs.declared.line_set.LineSet.{LineSet}
 use Rattle.script_text.proofs.DraftLemmas.{is_at-port, same_port}
 use Rattle.script_text.proofs.ItemLemmas.{IsLine-same, Says-port}
-use Rattle.script_text.proofs.ReadLemmas.{HasFirstFault-grammar, HasFirstFault-many, IsScript-read, ReadSoFar, ReadSoFar-passed, ReadSoFar-said, ReadSoFar-start}
+use Rattle.script_text.proofs.ReadLemmas.{HasFirstFault-grammar, HasFirstFault-many, IsScript-read}
+use Rattle.script_text.proofs.ReadLemmas.{ReadSoFar, ReadSoFar-passed, ReadSoFar-said}
+use Rattle.script_text.proofs.ReadLemmas.{ReadSoFar-start}
 use Rattle.script_text.proofs.StatementLemmas.{no_begin, no_piece, no_port_line, other_first}
 
 -- something has the property, or nothing has

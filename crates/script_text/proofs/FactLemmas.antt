@@ -1,5 +1,7 @@
 -- What every script keeps: the ports that its statements name, and how long its pieces are together.
-use Rattle.std.proofs.Common.{◌≡◌, ℕ, ◌+◌, ◌-◌, ◌<◌, ◌≤◌, ◌^◌, ◌==◌, Bool, List, [], ◌∷◌, ◌++◌, length, take, codes, Result, Ok, Err, sym, ap, ◌∙◌, subst, arith, inl, inr, append_assoc}
+use Rattle.std.proofs.Common.{◌≡◌, ℕ, ◌+◌, ◌-◌, ◌<◌, ◌≤◌, ◌^◌, ◌==◌, Bool, List, [], ◌∷◌, ◌++◌}
+use Rattle.std.proofs.Common.{length, take, codes, Result, Ok, Err, sym, ap, ◌∙◌, subst, arith, inl}
+use Rattle.std.proofs.Common.{inr, append_assoc}
 use Rattle.std.specs.Prelude.{IfOk, filter, slice_index}
 use Rattle.std.specs.List.{AllByRecursion, flat_map, fold, onto_first, slice_split, sum_by}
 use Rattle.std.specs.Str.Lines.{lines, lines_of_parts, strip_carriage_return}
@@ -15,7 +17,8 @@ use Rattle.card_core.specs.declared.script.Phase.{Phase}
 use Rattle.card_core.specs.declared.script.Script.{Script}
 use Rattle.card_core.specs.declared.script.Section.{Section}
 use Rattle.card_core.specs.declared.script.Statement.{Statement}
-use Rattle.script_text.specs.Draft.{NamesPortIfStated, OpenScript, empty_script, finished, open_phase, open_section, with_item}
+use Rattle.script_text.specs.Draft.{NamesPortIfStated, OpenScript, empty_script, finished}
+use Rattle.script_text.specs.Draft.{open_phase, open_section, with_item}
 use Rattle.script_text.specs.Line.{Says}
 use Rattle.script_text.specs.Ports.{NamesPort, script_piece_bytes, piece_of, statements_of}
 use Rattle.script_text.specs.Readings.{IsTextReading}

@@ -1,12 +1,14 @@
 -- A text is a script or has a first fault, never both, and has one of them.
-use Rattle.std.proofs.Common.{◌≡◌, ℕ, ◌+◌, ◌<◌, ◌≤◌, ◌⊎◌, List, [], ◌∷◌, ◌++◌, length, Result, Ok, Err, refl, sym, ap, ◌∙◌, subst, arith, inl, inr, append_assoc}
+use Rattle.std.proofs.Common.{◌≡◌, ℕ, ◌+◌, ◌<◌, ◌≤◌, ◌⊎◌, List, [], ◌∷◌, ◌++◌, length, Result, Ok}
+use Rattle.std.proofs.Common.{Err, refl, sym, ap, ◌∙◌, subst, arith, inl, inr, append_assoc}
 use Rattle.std.specs.Prelude.{IfOk}
 use Rattle.std.specs.Str.Lines.{lines}
 use Rattle.std.proofs.lemmas.Bool.{cases_order}
 use Rattle.card_core.specs.declared.script.Script.{Script}
 use Rattle.script_text.specs.Line.{IsFaulty, Says}
 use Rattle.script_text.specs.Readings.{IsReadAs, IsTextReading}
-use Rattle.script_text.specs.Script.{HasFewStatements, HasFirstFault, HaveItems, IsScript, ReadsUpTo, script_of}
+use Rattle.script_text.specs.Script.{HasFewStatements, HasFirstFault, HaveItems, IsScript}
+use Rattle.script_text.specs.Script.{ReadsUpTo, script_of}
 use Rattle.script_text.specs.Words.{words}
 use Rattle.script_text.specs.declared.fault.ScriptFault.{ScriptFault}
 use Rattle.script_text.specs.declared.fault.ScriptFault.TheVariants.{Bad, NoMemory}

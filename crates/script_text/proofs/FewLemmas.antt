@@ -1,11 +1,13 @@
 -- How many statements a script has at a port, when one more item follows.
-use Rattle.std.proofs.Common.{◌≡◌, ℕ, ◌≤◌, List, [], ◌∷◌, ◌++◌, sym, ap, ◌∙◌, subst, arith, inl, inr}
+use Rattle.std.proofs.Common.{◌≡◌, ℕ, ◌≤◌, List, [], ◌∷◌, ◌++◌, sym, ap, ◌∙◌, subst, arith, inl}
+use Rattle.std.proofs.Common.{inr}
 use Rattle.std.specs.List.{AllByRecursion, fold}
 use Rattle.std.proofs.lemmas.Bool.{cases_Bool}
 use Rattle.std.proofs.lemmas.List.Sums.{fold-append}
 use Rattle.card_core.specs.declared.script.Section.{Section}
 use Rattle.card_core.specs.declared.script.Statement.{Statement}
-use Rattle.script_text.specs.Draft.{HasRoomIfStated, IsFull, OpenScript, empty_script, finished, open_section, with_item}
+use Rattle.script_text.specs.Draft.{HasRoomIfStated, IsFull, OpenScript, empty_script, finished}
+use Rattle.script_text.specs.Draft.{open_section, with_item}
 use Rattle.script_text.specs.Script.{HasFewStatements, count_at, is_at, script_of}
 use Rattle.script_text.specs.Item.{Item}
 use Rattle.script_text.specs.Item.Item.{Stated, PhaseEnd, SectionEnd}

@@ -1,11 +1,12 @@
 -- The items whose bytes lie in a pool, when bytes follow it.
-use Rattle.std.proofs.Common.{◌≡◌, ℕ, ◌-◌, List, [], ◌∷◌, ◌++◌, length, take, drop, refl, sym, ap, ◌∙◌, arith, length-append, length-drop}
+use Rattle.std.proofs.Common.{◌≡◌, ℕ, ◌-◌, List, [], ◌∷◌, ◌++◌, length, take, drop, refl, sym, ap}
+use Rattle.std.proofs.Common.{◌∙◌, arith, length-append, length-drop}
 use Rattle.std.proofs.lemmas.List.{drop-append-le, take-append-le, map_push, drop_at, take_all}
 use Rattle.std.proofs.lemmas.List.Elements.{All-head, All-tail, All-push, All-weaker}
 use Rattle.card_core.specs.declared.event.Event.{Event}
 use Rattle.script_text.specs.Item.{Item}
 use Rattle.script_text.specs.Item.Item.{Stated}
-use Rattle.script_text.specs.Pool.{LiesWithin, LieWithin, event_by, item_at, items_at}
+use Rattle.script_text.specs.Pool.{LiesWithin, LieWithin, event_by, item_at, pooled_items}
 use Rattle.script_text.specs.declared.script_items.Entry.{Entry}
 use Rattle.script_text.specs.declared.script_items.Place.{Place}
 
@@ -25,11 +26,11 @@ item_at-append pool more (Entry.Stated place) within =
 item_at-append pool more Entry.PhaseEnd within = refl
 item_at-append pool more Entry.SectionEnd within = refl
 
-items_at-append : (pool more : List ℕ) (entries : List Entry) → LieWithin pool entries → items_at (pool ++ more) entries ≡ items_at pool entries
-items_at-append pool more [] within = refl
-items_at-append pool more (entry ∷ entries) within =
+pooled_items-append : (pool more : List ℕ) (entries : List Entry) → LieWithin pool entries → pooled_items (pool ++ more) entries ≡ pooled_items pool entries
+pooled_items-append pool more [] within = refl
+pooled_items-append pool more (entry ∷ entries) within =
     let first = item_at-append pool more entry (All-head (LiesWithin pool) entry entries within) in
-    let rest = items_at-append pool more entries (All-tail (LiesWithin pool) entry entries within) in
+    let rest = pooled_items-append pool more entries (All-tail (LiesWithin pool) entry entries within) in
     cc
 
 -- a statement at the end by its event
@@ -38,16 +39,16 @@ pub with_event : (items : List Item) (line : ℕ) (one other : Event) → one �
 with_event items line one other same = ap (λ (event : Event). items ++ Stated (record { line = line; event = event }) ∷ []) same
 
 -- a place that takes what follows the pool adds that statement
-pub items_at-push : (pool bytes : List ℕ) (entries : List Entry) (place : Place) → LieWithin pool entries
+pub pooled_items-push : (pool bytes : List ℕ) (entries : List Entry) (place : Place) → LieWithin pool entries
     → place.from ≡ length pool → place.to ≡ length (pool ++ bytes)
-    → items_at (pool ++ bytes) (entries ++ Entry.Stated place ∷ []) ≡ items_at pool entries ++ stated_by place bytes ∷ []
-items_at-push pool bytes entries place within from to =
+    → pooled_items (pool ++ bytes) (entries ++ Entry.Stated place ∷ []) ≡ pooled_items pool entries ++ stated_by place bytes ∷ []
+pooled_items-push pool bytes entries place within from to =
     let long = length-append pool bytes in
     let behind : drop place.from (pool ++ bytes) ≡ bytes = drop_at pool bytes place.from (sym from) in
     let whole : take (place.to - place.from) bytes ≡ bytes = take_all (place.to - place.from) bytes (omega arith) in
     map_push (item_at (pool ++ bytes)) entries (Entry.Stated place)
-    ∙ ap (λ (items : List Item). items ++ item_at (pool ++ bytes) (Entry.Stated place) ∷ []) (items_at-append pool bytes entries within)
-    ∙ ap (λ (bs : List ℕ). items_at pool entries ++ stated_by place bs ∷ []) (ap (take (place.to - place.from)) behind ∙ whole)
+    ∙ ap (λ (items : List Item). items ++ item_at (pool ++ bytes) (Entry.Stated place) ∷ []) (pooled_items-append pool bytes entries within)
+    ∙ ap (λ (bs : List ℕ). pooled_items pool entries ++ stated_by place bs ∷ []) (ap (take (place.to - place.from)) behind ∙ whole)
 
 wider : (pool bytes : List ℕ) (entry : Entry) → LiesWithin pool entry → LiesWithin (pool ++ bytes) entry
 wider pool bytes (Entry.Stated place) within = let long = length-append pool bytes in (within.0, omega (arith, long, within.1))

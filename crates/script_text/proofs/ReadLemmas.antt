@@ -1,13 +1,16 @@
 -- What the lines of a text say, and that they say nothing else.
-use Rattle.std.proofs.Common.{◌≡◌, ℕ, ◌+◌, ◌≤◌, List, [], ◌∷◌, ◌++◌, length, Err, refl, sym, ap, ◌∙◌, subst, arith, inl, inr, add-zero, append_assoc, length-append}
+use Rattle.std.proofs.Common.{◌≡◌, ℕ, ◌+◌, ◌≤◌, List, [], ◌∷◌, ◌++◌, length, Err, refl, sym, ap}
+use Rattle.std.proofs.Common.{◌∙◌, subst, arith, inl, inr, add-zero, append_assoc, length-append}
 use Rattle.std.specs.List.{fold}
 use Rattle.std.specs.Str.Lines.{lines}
 use Rattle.std.proofs.lemmas.List.{append-nil}
 use Rattle.std.proofs.lemmas.List.Sums.{fold_push}
-use Rattle.script_text.specs.Draft.{HasRoomIfStated, IsFull, IsNotAdded, OpenScript, empty_script, finished, with_item}
+use Rattle.script_text.specs.Draft.{HasRoomIfStated, IsFull, IsNotAdded, OpenScript, empty_script}
+use Rattle.script_text.specs.Draft.{finished, with_item}
 use Rattle.script_text.specs.Line.{IsFaulty, Says}
 use Rattle.script_text.specs.Readings.{IsLineReading, IsTextReading}
-use Rattle.script_text.specs.Script.{HasFewStatements, HasFirstFault, HaveItems, IsScript, ReadsUpTo, script_of}
+use Rattle.script_text.specs.Script.{HasFewStatements, HasFirstFault, HaveItems, IsScript}
+use Rattle.script_text.specs.Script.{ReadsUpTo, script_of}
 use Rattle.script_text.specs.Words.{IsPassedOver, words}
 use Rattle.script_text.specs.declared.fault.ScriptFault.{ScriptFault}
 use Rattle.script_text.specs.declared.fault.ScriptFault.TheVariants.{Bad, NoMemory}

@@ -1,5 +1,8 @@
 -- The words of a line, taken from its start.
-use Rattle.std.proofs.Common.{◌≡◌, ◌≢◌, ℕ, zero, suc, ◌+◌, ◌<◌, ◌==◌, Bool, true, false, List, [], ◌∷◌, ◌++◌, length, take, drop, slice_index, Option, Some, None, unwrap_or, All, refl, sym, ap, ◌∙◌, arith, inl, inr, get_or-take, take-append-drop}
+use Rattle.std.proofs.Common.{◌≡◌, ◌≢◌, ℕ, zero, suc, ◌+◌, ◌<◌, ◌==◌, Bool, true, false, List, []}
+use Rattle.std.proofs.Common.{◌∷◌, ◌++◌, length, take, drop, slice_index, Option, Some, None}
+use Rattle.std.proofs.Common.{unwrap_or, All, refl, sym, ap, ◌∙◌, arith, inl, inr, get_or-take}
+use Rattle.std.proofs.Common.{take-append-drop}
 use Rattle.std.specs.List.{filter}
 use Rattle.std.proofs.lemmas.Bool.{cases_eq, eq-eqb, eqb-true, ne_eqb, cond-true}
 use Rattle.std.proofs.lemmas.List.{drop_all, drop_more, take_all, length-take-le}

@@ -31,8 +31,8 @@ item_at pool (Entry.Stated place) = Stated (statement_at pool place)
 item_at pool Entry.PhaseEnd = PhaseEnd
 item_at pool Entry.SectionEnd = SectionEnd
 
-abbrev pub items_at : List ℕ → List Entry → List Item
-items_at pool entries = map (item_at pool) entries
+abbrev pub pooled_items : List ℕ → List Entry → List Item
+pooled_items pool entries = map (item_at pool) entries
 
 -- the bytes of an entry lie within the pool
 abbrev pub LiesWithin : List ℕ → Entry → Type 0

@@ -1,6 +1,7 @@
 //! A script as far as it has been read.
 ghost use Rattle.std.specs.Prelude.{◌≡◌, OnOk, IfOk, IfErr};
-ghost use Rattle.script_text.specs.Draft.{HasRoomIfStated, HasStatementRoom, CountsStatements, IsNotAdded};
+ghost use Rattle.script_text.specs.Draft.{HasRoomIfStated, HasStatementRoom, CountsStatements};
+ghost use Rattle.script_text.specs.Draft.{IsNotAdded};
 ghost use Rattle.script_text.specs.Draft.{NamesPortIfStated, empty_script, finished};
 ghost use Rattle.script_text.specs.Draft.{script_so_far, with_item};
 ghost use Rattle.script_text.specs.Item.Item.{Stated, PhaseEnd, SectionEnd};

@@ -97,9 +97,9 @@ impl Model for ScriptItems {
 
     ghost Value = { List Item };
 
-    ghost use Rattle.script_text.specs.Pool.{items_at, LieWithin};
+    ghost use Rattle.script_text.specs.Pool.{pooled_items, LieWithin};
 
-    ghost view = { λ s. items_at s.pool.items s.entries.items };
+    ghost view = { λ s. pooled_items s.pool.items s.entries.items };
 
     ghost invariant = { λ s. LieWithin s.pool.items s.entries.items };
 }

@@ -1,5 +1,6 @@
 -- A session goes on to suit its card when a file is added.
-use Rattle.std.proofs.Common.{◌≡◌, ◌≢◌, ℕ, Bool, true, false, cond, List, [], ◌∷◌, ◌++◌, refl, inl, inr, ⊎_elim, Option, Some, None, IfSome, IsNone, IsSomeAnd, IsTrue}
+use Rattle.std.proofs.Common.{◌≡◌, ◌≢◌, ℕ, Bool, true, false, cond, List, [], ◌∷◌, ◌++◌, refl, inl}
+use Rattle.std.proofs.Common.{inr, ⊎_elim, Option, Some, None, IfSome, IsNone, IsSomeAnd, IsTrue}
 use Rattle.std.specs.Option.{option_and_then}
 use Rattle.file_rows.proofs.ChangeLemmas.{added}
 use Rattle.file_rows.proofs.EditLemmas.{is_some_and}

@@ -1,5 +1,7 @@
 -- What CREATE FILE comes to.
-use Rattle.std.proofs.Common.{◌≡◌, ◌≢◌, ℕ, Bool, true, false, cond, List, [], ◌∷◌, length, not, refl, sym, ◌∙◌, ap, subst, ⊎_elim, Option, Some, None, Ok, Err, Result, IsNone, IsSomeAnd, IsTrue}
+use Rattle.std.proofs.Common.{◌≡◌, ◌≢◌, ℕ, Bool, true, false, cond, List, [], ◌∷◌, length, not}
+use Rattle.std.proofs.Common.{refl, sym, ◌∙◌, ap, subst, ⊎_elim, Option, Some, None, Ok, Err}
+use Rattle.std.proofs.Common.{Result, IsNone, IsSomeAnd, IsTrue}
 use Rattle.std.proofs.lemmas.Bool.{true≢false}
 use Rattle.std.specs.List.{Any}
 use Rattle.std.specs.Option.{unwrap_or}
@@ -23,7 +25,8 @@ use Rattle.file_rows.specs.declared.mode.Mode.{Mode}
 use Rattle.file_rows.specs.declared.row.FileRow.{FileRow}
 use Rattle.uicc_channels.proofs.AmongLemmas.{path_found}
 use Rattle.uicc_channels.proofs.CarryLemmas.{stands_open}
-use Rattle.uicc_channels.proofs.SessionLemmas.{channel_at-with_channel, channel_at-with_channel_same}
+use Rattle.uicc_channels.proofs.SessionLemmas.{channel_at-with_channel}
+use Rattle.uicc_channels.proofs.SessionLemmas.{channel_at-with_channel_same}
 use Rattle.uicc_channels.specs.Chan.{IsDirectoryIn, at_master}
 use Rattle.uicc_channels.specs.declared.chan.Chan.{Chan}
 use Rattle.uicc_channels.specs.CarriesOut.{CanCarryOut, content_after}
@@ -36,7 +39,8 @@ use Rattle.uicc_admin.proofs.CreateLemmas.{Suits-adding}
 use Rattle.uicc_admin.proofs.RowLemmas.{at_file-has, done_there, met_there}
 use Rattle.uicc_admin.proofs.StateLemmas.{CanCarryOut-refused}
 use Rattle.uicc_admin.proofs.SuitsLemmas.{open_within}
-use Rattle.uicc_admin.specs.Create.{adding, create_row, creating, creation_done, creation_refusal, file_asked, standing_at_new}
+use Rattle.uicc_admin.specs.Create.{adding, create_row, creating, creation_done, creation_refusal}
+use Rattle.uicc_admin.specs.Create.{file_asked, standing_at_new}
 use Rattle.uicc_admin.specs.FileWork.{FileWork}
 use Rattle.uicc_admin.specs.NamedFile.{has_no_parameters}
 use Rattle.uicc_admin.specs.declared.create_command.NewFile.{NewFile}

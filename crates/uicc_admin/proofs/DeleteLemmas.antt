@@ -1,5 +1,8 @@
 -- DELETE FILE: what is named, and where the channels stand when it is gone.
-use Rattle.std.proofs.Common.{◌≡◌, ◌≢◌, ◌⊎◌, ℕ, zero, suc, ◌-◌, ◌<◌, Bool, true, false, cond, not, ◌&&◌, ◌||◌, List, [], ◌∷◌, ◌++◌, length, drop, refl, sym, ◌∙◌, ap, subst, inl, inr, ⊎_elim, Option, Some, None, IfSome, IsSomeAnd, IsTrue, arith, length-set}
+use Rattle.std.proofs.Common.{◌≡◌, ◌≢◌, ◌⊎◌, ℕ, zero, suc, ◌-◌, ◌<◌, Bool, true, false, cond, not}
+use Rattle.std.proofs.Common.{◌&&◌, ◌||◌, List, [], ◌∷◌, ◌++◌, length, drop, refl, sym, ◌∙◌, ap}
+use Rattle.std.proofs.Common.{subst, inl, inr, ⊎_elim, Option, Some, None, IfSome, IsSomeAnd}
+use Rattle.std.proofs.Common.{IsTrue, arith, length-set}
 use Rattle.std.proofs.lemmas.Bool.{cases_eq, true≢false}
 use Rattle.std.proofs.lemmas.Bool.Decides.{Decides-eqb}
 use Rattle.std.proofs.lemmas.List.{get_or_past, length-append, length-take}
@@ -19,19 +22,23 @@ use Rattle.file_rows.specs.declared.change.Change.TheVariants.{FileGone}
 use Rattle.file_rows.specs.declared.content.Content.{Content}
 use Rattle.file_rows.specs.declared.head.FileHead.{FileHead}
 use Rattle.file_rows.specs.declared.head.Kind.{Kind}
-use Rattle.file_rows.specs.declared.head.Kind.TheVariants.{Master, Directory, Application, Transparent, Linear, Cyclic}
+use Rattle.file_rows.specs.declared.head.Kind.TheVariants.{Master, Directory, Application}
+use Rattle.file_rows.specs.declared.head.Kind.TheVariants.{Transparent, Linear, Cyclic}
 use Rattle.file_rows.specs.declared.row.FileRow.{FileRow}
 use Rattle.uicc_channels.proofs.AmongLemmas.{IsAmong, among_at, found_head, path_found}
 use Rattle.uicc_channels.proofs.CarryLemmas.{stands_open}
 use Rattle.uicc_channels.proofs.DirectoryLemmas.{directory_of_file}
-use Rattle.uicc_channels.proofs.SessionLemmas.{channel_at-with_channel, channel_at-with_channel_same}
+use Rattle.uicc_channels.proofs.SessionLemmas.{channel_at-with_channel}
+use Rattle.uicc_channels.proofs.SessionLemmas.{channel_at-with_channel_same}
 use Rattle.uicc_channels.specs.Chan.{IsDirectoryIn, StandsAmong}
 use Rattle.uicc_channels.specs.Session.{IsOpen, Suits, channel_at, open_channel}
 use Rattle.uicc_channels.specs.declared.chan.Chan.{Chan}
 use Rattle.uicc_channels.specs.declared.session.Session.{Session}
 use Rattle.uicc_admin.proofs.NamedLemmas.{and_then_found, child_found, only_found}
 use Rattle.uicc_admin.proofs.SuitsLemmas.{open_within}
-use Rattle.uicc_admin.specs.Delete.{directory_itself, directory_left, file_to_delete, is_named_below, is_used_elsewhere, leaving, channel_left, may_be_deleted, named_to_delete, stands_there}
+use Rattle.uicc_admin.specs.Delete.{directory_itself, directory_left, file_to_delete}
+use Rattle.uicc_admin.specs.Delete.{is_named_below, is_used_elsewhere, leaving, channel_left}
+use Rattle.uicc_admin.specs.Delete.{may_be_deleted, named_to_delete, stands_there}
 
 either_found : (one other : Option FileRow) (row : FileRow) → option_or one other ≡ Some row → (one ≡ Some row) ⊎ (other ≡ Some row)
 either_found None other row e = inr e

@@ -1,11 +1,13 @@
 -- What DELETE FILE comes to.
-use Rattle.std.proofs.Common.{◌≡◌, ◌≢◌, ℕ, Bool, true, false, cond, List, refl, sym, ◌∙◌, ap, subst, Option, Some, None, IsTrue}
+use Rattle.std.proofs.Common.{◌≡◌, ◌≢◌, ℕ, Bool, true, false, cond, List, refl, sym, ◌∙◌, ap, subst}
+use Rattle.std.proofs.Common.{Option, Some, None, IsTrue}
 use Rattle.std.proofs.lemmas.Bool.{true≢false}
 use Rattle.std.specs.Prelude.{◌==◌, IsNone}
 use Rattle.std.proofs.Common.{length}
 use Rattle.apdu_codec.specs.Command.{Apdu}
 use Rattle.apdu_codec.specs.declared.status.Sw.{Sw}
-use Rattle.apdu_codec.specs.declared.status.TheConstants.Sw.{CONDITIONS_NOT_SATISFIED, FILE_NOT_FOUND}
+use Rattle.apdu_codec.specs.declared.status.TheConstants.Sw.{CONDITIONS_NOT_SATISFIED}
+use Rattle.apdu_codec.specs.declared.status.TheConstants.Sw.{FILE_NOT_FOUND}
 use Rattle.file_rows.proofs.ChangeLemmas.{gone, others}
 use Rattle.file_rows.proofs.ConditionLemmas.{fits_where}
 use Rattle.file_rows.proofs.EditLemmas.{system_of}
@@ -25,7 +27,8 @@ use Rattle.uicc_channels.specs.declared.session.Session.{Session}
 use Rattle.uicc_admin.proofs.DeleteLemmas.{IsDeletable, Suits-leaving, named_deletable, none_names}
 use Rattle.uicc_admin.proofs.RowLemmas.{at_file-has, done_there, met_there}
 use Rattle.uicc_admin.proofs.StateLemmas.{CanCarryOut-refused, is_there}
-use Rattle.uicc_admin.specs.Delete.{delete_row, deleting, is_used_elsewhere, named_to_delete, stands_there}
+use Rattle.uicc_admin.specs.Delete.{delete_row, deleting, is_used_elsewhere, named_to_delete}
+use Rattle.uicc_admin.specs.Delete.{stands_there}
 use Rattle.uicc_admin.specs.NamedFile.{has_no_parameters}
 
 abbrev needs_of_delete : Session → Apdu → Needs

@@ -1,5 +1,6 @@
 -- The file that a command names is the one of its path.
-use Rattle.std.proofs.Common.{◌≡◌, ℕ, Bool, true, false, cond, List, [], ◌∷◌, ◌++◌, refl, sym, subst, Option, Some, None, not}
+use Rattle.std.proofs.Common.{◌≡◌, ℕ, Bool, true, false, cond, List, [], ◌∷◌, ◌++◌, refl, sym}
+use Rattle.std.proofs.Common.{subst, Option, Some, None, not}
 use Rattle.std.specs.Option.{option_and_then}
 use Rattle.fcp_codec.specs.Values.{id_of}
 use Rattle.file_rows.specs.Content.{file_at}

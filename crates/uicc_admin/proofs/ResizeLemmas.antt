@@ -1,5 +1,7 @@
 -- RESIZE FILE: the file may have its new size, and the channels stand among the files afterwards.
-use Rattle.std.proofs.Common.{◌≡◌, ◌≢◌, ℕ, ◌+◌, ◌*◌, ◌/◌, ◌%◌, ◌<◌, ◌≤◌, Bool, true, false, cond, ◌&&◌, List, refl, sym, ◌∙◌, ap, subst, inl, inr, ⊎_elim, Option, Some, None, IfSome, IsSome, IsSomeAnd, option_map, arith, zero, suc}
+use Rattle.std.proofs.Common.{◌≡◌, ◌≢◌, ℕ, ◌+◌, ◌*◌, ◌/◌, ◌%◌, ◌<◌, ◌≤◌, Bool, true, false, cond}
+use Rattle.std.proofs.Common.{◌&&◌, List, refl, sym, ◌∙◌, ap, subst, inl, inr, ⊎_elim, Option, Some}
+use Rattle.std.proofs.Common.{None, IfSome, IsSome, IsSomeAnd, option_map, arith, zero, suc}
 use Rattle.std.proofs.Math.ListN.{get_or-map}
 use Rattle.std.proofs.Math.Nat.{div-mul-le_self, div-zero, lt-div-mul-add, mul-le-mul_right}
 use Rattle.std.proofs.lemmas.Bool.{eqb-true, leb-true, ltb-false, true≢false}
@@ -14,11 +16,13 @@ use Rattle.file_rows.proofs.FormLemmas.{records_of}
 use Rattle.file_rows.proofs.PathLemmas.{both_hold}
 use Rattle.file_rows.specs.Change.{with_file, with_size}
 use Rattle.file_rows.specs.Content.{file_at}
-use Rattle.file_rows.specs.FileHead.{HasForm, HasRecord, HoldsRecords, IsFile, IsTransparent, holds_files, is_cyclic, is_linear, is_transparent}
+use Rattle.file_rows.specs.FileHead.{HasForm, HasRecord, HoldsRecords, IsFile, IsTransparent}
+use Rattle.file_rows.specs.FileHead.{holds_files, is_cyclic, is_linear, is_transparent}
 use Rattle.file_rows.specs.Path.{same_path}
 use Rattle.file_rows.specs.declared.head.FileHead.{FileHead}
 use Rattle.file_rows.specs.declared.head.Kind.{Kind}
-use Rattle.file_rows.specs.declared.head.Kind.TheVariants.{Master, Directory, Application, Transparent, Linear, Cyclic}
+use Rattle.file_rows.specs.declared.head.Kind.TheVariants.{Master, Directory, Application}
+use Rattle.file_rows.specs.declared.head.Kind.TheVariants.{Transparent, Linear, Cyclic}
 use Rattle.file_rows.specs.declared.row.FileRow.{FileRow}
 use Rattle.uicc_channels.specs.Chan.{StandsAmong}
 use Rattle.uicc_channels.specs.Session.{Suits, channel_at}

@@ -1,11 +1,14 @@
 -- What RESIZE FILE comes to.
-use Rattle.std.proofs.Common.{◌≡◌, ◌≢◌, inl, inr, ℕ, ◌+◌, ◌/◌, ◌≤◌, ◌&&◌, option_map, arith, Bool, true, false, cond, not, List, refl, sym, ◌∙◌, ap, subst, Option, Some, None}
+use Rattle.std.proofs.Common.{◌≡◌, ◌≢◌, inl, inr, ℕ, ◌+◌, ◌/◌, ◌≤◌, ◌&&◌, option_map, arith, Bool}
+use Rattle.std.proofs.Common.{true, false, cond, not, List, refl, sym, ◌∙◌, ap, subst, Option, Some}
+use Rattle.std.proofs.Common.{None}
 use Rattle.std.proofs.lemmas.Bool.{leb-true}
 use Rattle.std.specs.Prelude.{◌==◌, nat_lt}
 use Rattle.std.proofs.Common.{length}
 use Rattle.apdu_codec.specs.Command.{Apdu}
 use Rattle.apdu_codec.specs.declared.status.Sw.{Sw}
-use Rattle.apdu_codec.specs.declared.status.TheConstants.Sw.{FILE_NOT_FOUND, NOT_ENOUGH_SPACE, OK, WRONG_DATA}
+use Rattle.apdu_codec.specs.declared.status.TheConstants.Sw.{FILE_NOT_FOUND, NOT_ENOUGH_SPACE, OK}
+use Rattle.apdu_codec.specs.declared.status.TheConstants.Sw.{WRONG_DATA}
 use Rattle.file_rows.proofs.ChangeLemmas.{others}
 use Rattle.file_rows.proofs.ConditionLemmas.{fits_where}
 use Rattle.file_rows.proofs.EditLemmas.{is_some_and, system_of}
@@ -29,12 +32,14 @@ use Rattle.uicc_channels.specs.declared.chan.Chan.{Chan}
 use Rattle.uicc_channels.specs.declared.session.Session.{Session}
 use Rattle.uicc_channels.specs.declared.session_change.NewEnd.{NewEnd}
 use Rattle.uicc_admin.proofs.NamedLemmas.{ef_in_found}
-use Rattle.uicc_admin.proofs.ResizeLemmas.{Suits-sized, channel_at-with_end, file_of_size, up_to_end}
+use Rattle.uicc_admin.proofs.ResizeLemmas.{Suits-sized, channel_at-with_end, file_of_size}
+use Rattle.uicc_admin.proofs.ResizeLemmas.{up_to_end}
 use Rattle.uicc_admin.proofs.RowLemmas.{at_file-has, done_there}
 use Rattle.uicc_admin.proofs.StateLemmas.{CanCarryOut-refused}
 use Rattle.uicc_admin.specs.FileWork.{FileWork, at_file}
 use Rattle.uicc_admin.specs.NamedFile.{ef_in, has_no_parameters}
-use Rattle.uicc_admin.specs.Resize.{is_within_quota, may_have_size, new_end, resize_asked, resize_row, resizing, size_asked}
+use Rattle.uicc_admin.specs.Resize.{is_within_quota, may_have_size, new_end, resize_asked}
+use Rattle.uicc_admin.specs.Resize.{resize_row, resizing, size_asked}
 use Rattle.uicc_admin.specs.Pointers.{KeepsAllButPointer}
 use Rattle.uicc_admin.specs.declared.resize.NewSize.{NewSize}
 

@@ -1,13 +1,17 @@
 -- CREATE FILE (ETSI TS 102 222).
-use Rattle.std.specs.Prelude.{ℕ, Bool, true, not, ◌==◌, if◌then◌else◌, List, length, Option, Some, None, is_some, option_and_then, option_map, Result, Ok, Err}
+use Rattle.std.specs.Prelude.{ℕ, Bool, true, not, ◌==◌, if◌then◌else◌, List, length, Option, Some}
+use Rattle.std.specs.Prelude.{None, is_some, option_and_then, option_map, Result, Ok, Err}
 use Rattle.apdu_codec.specs.Answer.{status_alone}
 use Rattle.apdu_codec.specs.Command.{Apdu}
 use Rattle.apdu_codec.specs.declared.status.Sw.{Sw}
-use Rattle.apdu_codec.specs.declared.status.TheConstants.Sw.{FILE_EXISTS, FILE_NOT_FOUND, NAME_EXISTS, NOT_ENOUGH_SPACE, OK, WRONG_DATA}
+use Rattle.apdu_codec.specs.declared.status.TheConstants.Sw.{FILE_EXISTS, FILE_NOT_FOUND}
+use Rattle.apdu_codec.specs.declared.status.TheConstants.Sw.{NAME_EXISTS, NOT_ENOUGH_SPACE, OK}
+use Rattle.apdu_codec.specs.declared.status.TheConstants.Sw.{WRONG_DATA}
 use Rattle.fcp_codec.specs.Creation.{created, is_directory}
 use Rattle.fcp_codec.specs.FileForm.{form_of}
 use Rattle.fcp_codec.specs.declared.creation.CreationFault.{CreationFault}
-use Rattle.fcp_codec.specs.declared.creation.CreationFault.TheVariants.{BadParameters, IdInUse, NameInUse, QuotaExceeded}
+use Rattle.fcp_codec.specs.declared.creation.CreationFault.TheVariants.{BadParameters, IdInUse}
+use Rattle.fcp_codec.specs.declared.creation.CreationFault.TheVariants.{NameInUse, QuotaExceeded}
 use Rattle.fcp_codec.specs.declared.fcp.Fcp.{Fcp}
 use Rattle.fcp_codec.specs.declared.fcp.FileForm.{FileForm}
 use Rattle.file_rows.specs.Content.{file_at}

@@ -1,10 +1,12 @@
 -- RESIZE FILE (ETSI TS 102 222).
-use Rattle.std.specs.Prelude.{ℕ, ◌+◌, ◌/◌, ◌%◌, Bool, not, ◌==◌, ◌&&◌, nat_le, if◌then◌else◌, List, length, Option, Some, None, option_and_then, option_map}
+use Rattle.std.specs.Prelude.{ℕ, ◌+◌, ◌/◌, ◌%◌, Bool, not, ◌==◌, ◌&&◌, nat_le, if◌then◌else◌, List}
+use Rattle.std.specs.Prelude.{length, Option, Some, None, option_and_then, option_map}
 use Rattle.apdu_codec.specs.Answer.{status_alone}
 use Rattle.apdu_codec.specs.Class.{is_within}
 use Rattle.apdu_codec.specs.Command.{Apdu}
 use Rattle.apdu_codec.specs.declared.status.Sw.{Sw}
-use Rattle.apdu_codec.specs.declared.status.TheConstants.Sw.{FILE_NOT_FOUND, NOT_ENOUGH_SPACE, OK, WRONG_DATA}
+use Rattle.apdu_codec.specs.declared.status.TheConstants.Sw.{FILE_NOT_FOUND, NOT_ENOUGH_SPACE, OK}
+use Rattle.apdu_codec.specs.declared.status.TheConstants.Sw.{WRONG_DATA}
 use Rattle.fcp_codec.specs.declared.fcp.Fcp.{Fcp}
 use Rattle.file_rows.specs.Content.{use_of}
 use Rattle.file_rows.specs.FileHead.{is_cyclic, is_linear, is_transparent}

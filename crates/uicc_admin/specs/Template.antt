@@ -1,5 +1,6 @@
 -- The template 62 of file control parameters as the body of a command (ETSI TS 102 222).
-use Rattle.std.specs.Prelude.{ℕ, ◌==◌, ◌&&◌, if◌then◌else◌, List, length, Option, Some, None, option_and_then}
+use Rattle.std.specs.Prelude.{ℕ, ◌==◌, ◌&&◌, if◌then◌else◌, List, length, Option, Some, None}
+use Rattle.std.specs.Prelude.{option_and_then}
 use Rattle.ber_tlv.specs.Objects.{Read, object_at}
 use Rattle.ber_tlv.specs.Walk.{Object}
 use Rattle.fcp_codec.specs.Reading.{fields_in}

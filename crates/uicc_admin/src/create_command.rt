@@ -9,7 +9,8 @@ ghost use Rattle.uicc_channels.specs.Session.{IsOpen, open_channel, with_channel
 ghost use Rattle.uicc_channels.specs.SessionChange.{no_change, session_after};
 ghost use Rattle.uicc_tree.specs.Access.{AnswersFor};
 ghost use Rattle.uicc_tree.specs.Files.{IsLive, file_of, path_of, rows_of};
-ghost use Rattle.uicc_admin.specs.Create.{create_row, creation_refusal, creation_sw, file_asked, mode_for_new, standing_at_new};
+ghost use Rattle.uicc_admin.specs.Create.{create_row, creation_refusal, creation_sw, file_asked};
+ghost use Rattle.uicc_admin.specs.Create.{mode_for_new, standing_at_new};
 
 use crate::named_file::has_no_parameters;
 use crate::template::read_template;

@@ -10,7 +10,10 @@ ghost use Rattle.uicc_channels.specs.Session.{IsOpen, channel_at};
 ghost use Rattle.uicc_channels.specs.SessionChange.{no_change, session_after};
 ghost use Rattle.uicc_tree.specs.Access.{AnswersFor};
 ghost use Rattle.uicc_tree.specs.Files.{Gives, IsLive, file_of, rows_of};
-ghost use Rattle.uicc_admin.specs.Delete.{delete_row, deletion_refusal, directory_itself, directory_left, ef_life_refusal, file_to_delete, is_named_below, is_used_elsewhere, leaving, channel_left, may_be_deleted, named_to_delete, stands_there};
+ghost use Rattle.uicc_admin.specs.Delete.{delete_row, deletion_refusal, directory_itself};
+ghost use Rattle.uicc_admin.specs.Delete.{directory_left, ef_life_refusal, file_to_delete};
+ghost use Rattle.uicc_admin.specs.Delete.{is_named_below, is_used_elsewhere, leaving, channel_left};
+ghost use Rattle.uicc_admin.specs.Delete.{may_be_deleted, named_to_delete, stands_there};
 
 use crate::named_file::{find_child, has_no_parameters, id_of};
 use apdu_codec::{Command, Sw, class_fits};

@@ -6,7 +6,9 @@ ghost use Rattle.uicc_channels.specs.CommandRow.{Follows, decided};
 ghost use Rattle.uicc_channels.specs.Session.{IsOpen, Suits};
 ghost use Rattle.uicc_tree.specs.Access.{AnswersFor};
 ghost use Rattle.uicc_tree.specs.Files.{IsLive, file_of, rows_of};
-ghost use Rattle.uicc_admin.specs.FileState.{activate_row, change_of_state, deactivate_row, mode_for, same_life, state_refusal, state_row, terminate_row};
+ghost use Rattle.uicc_admin.specs.FileState.{activate_row, change_of_state, deactivate_row};
+ghost use Rattle.uicc_admin.specs.FileState.{mode_for, same_life, state_refusal, state_row};
+ghost use Rattle.uicc_admin.specs.FileState.{terminate_row};
 
 use crate::named_file::{find_ef_named, has_no_parameters, may_name_ef};
 use apdu_codec::{Command, Sw, class_fits};

@@ -1,4 +1,5 @@
-ghost use Rattle.std.specs.Prelude.{◌≡◌, ◌≢◌, ◌≤◌, ◌/◌, ℕ, Bool, true, false, List, Ok, Option, Some, None, IsNone, IsTrue};
+ghost use Rattle.std.specs.Prelude.{◌≡◌, ◌≢◌, ◌≤◌, ◌/◌, ℕ, Bool, true, false, List, Ok, Option};
+ghost use Rattle.std.specs.Prelude.{Some, None, IsNone, IsTrue};
 ghost use Rattle.apdu_codec.specs.Command.{Apdu};
 ghost use Rattle.apdu_codec.specs.declared.status.Sw.{Sw};
 ghost use Rattle.fcp_codec.specs.Creation.{created};
@@ -21,7 +22,8 @@ ghost use Rattle.uicc_admin.specs.Administered.{IsAdministered};
 ghost use Rattle.uicc_admin.specs.Administration.{admin_row, is_administration};
 ghost use Rattle.uicc_admin.specs.Create.{create_row, file_asked};
 ghost use Rattle.uicc_admin.specs.Delete.{delete_row, named_to_delete, stands_there};
-ghost use Rattle.uicc_admin.specs.FileState.{activate_row, deactivate_row, state_row, terminate_row};
+ghost use Rattle.uicc_admin.specs.FileState.{activate_row, deactivate_row, state_row};
+ghost use Rattle.uicc_admin.specs.FileState.{terminate_row};
 ghost use Rattle.uicc_admin.specs.NamedFile.{ef_in, ef_named};
 ghost use Rattle.uicc_admin.specs.Pointers.{KeepsAllButPointer};
 ghost use Rattle.uicc_admin.specs.Resize.{resize_row, size_asked};

@@ -4,7 +4,8 @@ ghost use Rattle.apdu_codec.specs.Command.{apdu_of};
 ghost use Rattle.fcp_codec.specs.Values.{id_of};
 ghost use Rattle.file_rows.specs.Find.{child};
 ghost use Rattle.uicc_tree.specs.Files.{Gives, IsLive, file_of, rows_of};
-ghost use Rattle.uicc_admin.specs.NamedFile.{ef_in, ef_named, ef_not_there, has_no_parameters, may_name_ef};
+ghost use Rattle.uicc_admin.specs.NamedFile.{ef_in, ef_named, ef_not_there, has_no_parameters};
+ghost use Rattle.uicc_admin.specs.NamedFile.{may_name_ef};
 
 use apdu_codec::{Command, Sw};
 use file_rows::Path;

@@ -1,4 +1,5 @@
-ghost use Rattle.std.specs.Prelude.{◌≡◌, ◌<◌, ◌^◌, ◌/◌, ◌%◌, ◌==◌, ◌&&◌, ℕ, Bool, List, Some, None, IsTrue, MatchResult};
+ghost use Rattle.std.specs.Prelude.{◌≡◌, ◌<◌, ◌^◌, ◌/◌, ◌%◌, ◌==◌, ◌&&◌, ℕ, Bool, List, Some, None};
+ghost use Rattle.std.specs.Prelude.{IsTrue, MatchResult};
 ghost use Rattle.apdu_codec.specs.Class.{is_within};
 ghost use Rattle.apdu_codec.specs.Command.{IsCommand, apdu_of};
 ghost use Rattle.file_rows.specs.declared.mode.Mode.{Mode};
@@ -8,7 +9,8 @@ ghost use Rattle.uicc_channels.specs.Session.{IsOpen};
 ghost use Rattle.uicc_tree.specs.Access.{AnswersFor};
 ghost use Rattle.uicc_tree.specs.Files.{IsLive, file_of, rows_of};
 ghost use Rattle.uicc_admin.specs.NamedFile.{ef_in};
-ghost use Rattle.uicc_admin.specs.Resize.{is_within_quota, may_have_size, new_end, resize_row, size_asked, size_refusal};
+ghost use Rattle.uicc_admin.specs.Resize.{is_within_quota, may_have_size, new_end, resize_row};
+ghost use Rattle.uicc_admin.specs.Resize.{size_asked, size_refusal};
 
 use crate::named_file::{find_ef, has_no_parameters};
 use crate::template::read_template;

@@ -1,4 +1,5 @@
-use Rattle.std.proofs.Common.{ℕ, Bool, true, false, List, ◌∷◌, [], Option, Some, None, IfSome, IsSome, refl, inl, arith}
+use Rattle.std.proofs.Common.{ℕ, Bool, true, false, List, ◌∷◌, [], Option, Some, None, IfSome}
+use Rattle.std.proofs.Common.{IsSome, refl, inl, arith}
 use Rattle.std.specs.Prelude.{◌==◌, ◌||◌, if◌then◌else◌, unwrap_or}
 use Rattle.apdu_codec.specs.Command.{Apdu}
 use Rattle.file_rows.specs.Content.{IsValid}
@@ -6,7 +7,8 @@ use Rattle.file_rows.specs.declared.content.Content.{Content}
 use Rattle.file_rows.specs.declared.row.FileRow.{FileRow}
 use Rattle.uicc_channels.proofs.ManageLemmas.{IsClosing, IsOpening, manage-has}
 use Rattle.uicc_channels.proofs.ResponseLemmas.{response-has}
-use Rattle.uicc_channels.proofs.SessionLemmas.{StandsAmong-at_master, Suits-waiting, Suits-with_channel}
+use Rattle.uicc_channels.proofs.SessionLemmas.{StandsAmong-at_master, Suits-waiting}
+use Rattle.uicc_channels.proofs.SessionLemmas.{Suits-with_channel}
 use Rattle.uicc_channels.specs.CarriesOut.{CanCarryOut}
 use Rattle.uicc_channels.specs.Chan.{StandsAmong, at_master}
 use Rattle.uicc_channels.specs.CommandRow.{decided}

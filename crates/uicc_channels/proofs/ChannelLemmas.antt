@@ -1,4 +1,5 @@
-use Rattle.std.proofs.Common.{◌≡◌, ◌≢◌, ℕ, true, inl, inr, List, [], ◌∷◌, Option, Some, None, refl, sym, subst, ◌∙◌}
+use Rattle.std.proofs.Common.{◌≡◌, ◌≢◌, ℕ, true, inl, inr, List, [], ◌∷◌, Option, Some, None, refl}
+use Rattle.std.proofs.Common.{sym, subst, ◌∙◌}
 use Rattle.std.proofs.lemmas.Bool.{cases_eq, true≢false}
 use Rattle.apdu_codec.specs.Command.{Apdu}
 use Rattle.apdu_codec.specs.Sw.{wrong_le}
@@ -6,7 +7,10 @@ use Rattle.apdu_codec.specs.declared.status.TheConstants.Sw.{OK}
 use Rattle.std.specs.Prelude.{length}
 use Rattle.uicc_channels.proofs.ManageLemmas.{IsOpening, lowest_closed-is}
 use Rattle.uicc_channels.proofs.NeedsLemmas.{is_met}
-use Rattle.uicc_channels.proofs.SessionLemmas.{channel_at-waiting, channel_at-waiting_same, channel_at-with_channel, channel_at-with_channel_closed, channel_at-with_channel_open}
+use Rattle.uicc_channels.proofs.SessionLemmas.{channel_at-waiting, channel_at-waiting_same}
+use Rattle.uicc_channels.proofs.SessionLemmas.{channel_at-with_channel}
+use Rattle.uicc_channels.proofs.SessionLemmas.{channel_at-with_channel_closed}
+use Rattle.uicc_channels.proofs.SessionLemmas.{channel_at-with_channel_open}
 use Rattle.uicc_channels.specs.ChannelLaws.{ChangesChannelsAlone, IsRefusal, StaysButWaiting}
 use Rattle.uicc_channels.specs.Chan.{holding}
 use Rattle.uicc_channels.specs.Delivery.{answered, le_refusal, takes, waiting}

@@ -1,5 +1,7 @@
 -- The directory in which a file stands.
-use Rattle.std.proofs.Common.{◌≡◌, ◌≢◌, ℕ, zero, suc, ◌+◌, ◌-◌, ◌<◌, false, List, [], ◌∷◌, ◌++◌, length, take, get_or, refl, sym, ◌∙◌, ap, subst, inr, arith, length-append}
+use Rattle.std.proofs.Common.{◌≡◌, ◌≢◌, ℕ, zero, suc, ◌+◌, ◌-◌, ◌<◌, false, List, [], ◌∷◌, ◌++◌}
+use Rattle.std.proofs.Common.{length, take, get_or, refl, sym, ◌∙◌, ap, subst, inr, arith}
+use Rattle.std.proofs.Common.{length-append}
 use Rattle.std.proofs.lemmas.Bool.Decides.{nat_tests}
 use Rattle.std.proofs.Math.Seq.{take-append_seam}
 use Rattle.std.proofs.lemmas.List.{append_assoc, get_or_append_left}
@@ -13,7 +15,8 @@ use Rattle.file_rows.specs.declared.head.FileHead.{FileHead}
 use Rattle.file_rows.specs.declared.head.Kind.TheVariants.{Master}
 use Rattle.file_rows.specs.declared.row.FileRow.{FileRow}
 use Rattle.uicc_channels.specs.Chan.{IsDirectoryIn}
-use Rattle.uicc_channels.proofs.AmongLemmas.{AreApart, IsAmong, among_first, among_later, found_head}
+use Rattle.uicc_channels.proofs.AmongLemmas.{AreApart, IsAmong, among_first, among_later}
+use Rattle.uicc_channels.proofs.AmongLemmas.{found_head}
 
 -- what holds of one of the first ones holds of one of all
 any_of_more : (P : FileHead → Type 0) (xs ys : List FileHead) → Any P xs → Any P (xs ++ ys)

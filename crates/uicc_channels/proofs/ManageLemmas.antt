@@ -1,4 +1,5 @@
-use Rattle.std.proofs.Common.{◌≡◌, ℕ, ◌≤◌, Bool, true, false, inl, inr, ◌⊎◌, [], ◌∷◌, Option, Some, None, IsSome, refl, arith}
+use Rattle.std.proofs.Common.{◌≡◌, ℕ, ◌≤◌, Bool, true, false, inl, inr, ◌⊎◌, [], ◌∷◌, Option, Some}
+use Rattle.std.proofs.Common.{None, IsSome, refl, arith}
 use Rattle.std.proofs.lemmas.Bool.{cases_eq}
 use Rattle.std.specs.Prelude.{is_some, unwrap_or, ◌||◌, if◌then◌else◌}
 use Rattle.std.specs.Option.{option_or}
@@ -11,7 +12,8 @@ use Rattle.uicc_channels.specs.ChannelLaws.{IsLowestClosed}
 use Rattle.uicc_channels.specs.CommandOutcome.{CommandOutcome, refused}
 use Rattle.uicc_channels.specs.CommandRow.{decided}
 use Rattle.uicc_channels.specs.Delivery.{le_refusal}
-use Rattle.uicc_channels.specs.ManageChannel.{closing, is_closing, is_opening, lowest_closed, manage_channel_row, opening, opening_refusal}
+use Rattle.uicc_channels.specs.ManageChannel.{closing, is_closing, is_opening, lowest_closed}
+use Rattle.uicc_channels.specs.ManageChannel.{manage_channel_row, opening, opening_refusal}
 use Rattle.uicc_channels.specs.Needs.{refused_unless}
 use Rattle.uicc_channels.specs.Session.{IsOpen, channel_at}
 use Rattle.uicc_channels.specs.declared.chan.Chan.{Chan}

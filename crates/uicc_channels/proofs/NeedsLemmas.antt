@@ -2,7 +2,9 @@ use Rattle.std.proofs.Common.{◌≡◌, Bool, true, false, List, [], ◌∷◌,
 use Rattle.std.specs.List.{AllByRecursion}
 use Rattle.std.specs.Option.{option_or}
 use Rattle.apdu_codec.specs.declared.status.Sw.{Sw}
-use Rattle.apdu_codec.specs.declared.status.TheConstants.Sw.{CHANNEL_NOT_SUPPORTED, INCOMPATIBLE_STRUCTURE, WRONG_CLASS, WRONG_LENGTH, WRONG_P1_P2}
+use Rattle.apdu_codec.specs.declared.status.TheConstants.Sw.{CHANNEL_NOT_SUPPORTED}
+use Rattle.apdu_codec.specs.declared.status.TheConstants.Sw.{INCOMPATIBLE_STRUCTURE, WRONG_CLASS}
+use Rattle.apdu_codec.specs.declared.status.TheConstants.Sw.{WRONG_LENGTH, WRONG_P1_P2}
 use Rattle.plain_lists.specs.FirstOf.{first_of}
 use Rattle.uicc_channels.specs.Needs.{Needs, refusals, refused_unless}
 

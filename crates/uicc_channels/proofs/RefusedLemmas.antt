@@ -3,7 +3,8 @@ use Rattle.std.proofs.Common.{◌≡◌, ℕ, true, List, [], ◌∷◌, drop, l
 use Rattle.apdu_codec.specs.Command.{Apdu}
 use Rattle.apdu_codec.specs.declared.status.Sw.{Sw}
 use Rattle.apdu_codec.specs.declared.status.TheConstants.Sw.{OK}
-use Rattle.uicc_channels.proofs.AcceptedLemmas.{IsDoneOrRefused-accepted, accepted-answered, accepted-bytes_waiting}
+use Rattle.uicc_channels.proofs.AcceptedLemmas.{IsDoneOrRefused-accepted, accepted-answered}
+use Rattle.uicc_channels.proofs.AcceptedLemmas.{accepted-bytes_waiting}
 use Rattle.uicc_channels.proofs.ManageLemmas.{manage-has}
 use Rattle.uicc_channels.proofs.ResponseLemmas.{response-has}
 use Rattle.uicc_channels.specs.Accepted.{IsDoneOrRefused, is_accepted}

@@ -1,4 +1,7 @@
-use Rattle.std.proofs.Common.{◌≡◌, ◌≢◌, ℕ, zero, suc, ◌-◌, ◌<◌, ◌≤◌, Bool, inl, inr, List, [], ◌∷◌, length, replicate, get_or, set, refl, sym, ◌∙◌, ap, arith, Option, Some, None, IfSome, IsSome, IsSomeAnd, IsTrue, option_map, subst, length-set}
+use Rattle.std.proofs.Common.{◌≡◌, ◌≢◌, ℕ, zero, suc, ◌-◌, ◌<◌, ◌≤◌, Bool, inl, inr, List, [], ◌∷◌}
+use Rattle.std.proofs.Common.{length, replicate, get_or, set, refl, sym, ◌∙◌, ap, arith, Option}
+use Rattle.std.proofs.Common.{Some, None, IfSome, IsSome, IsSomeAnd, IsTrue, option_map, subst}
+use Rattle.std.proofs.Common.{length-set}
 use Rattle.std.proofs.lemmas.Bool.{cases_eq, cases_lt, true≢false}
 use Rattle.std.proofs.lemmas.List.{get_or-set_other, get_or-set_same, get_or_past}
 use Rattle.file_rows.specs.Content.{AreFiles, IsValid, file_at}
@@ -10,7 +13,8 @@ use Rattle.file_rows.specs.declared.head.Kind.TheVariants.{Master}
 use Rattle.file_rows.specs.declared.row.FileRow.{FileRow}
 use Rattle.uicc_channels.specs.Chan.{IsDirectoryIn, StandsAmong, at_isdr, at_master, holding}
 use Rattle.uicc_channels.specs.Delivery.{waiting}
-use Rattle.uicc_channels.specs.Session.{IsOpen, Suits, channel_at, fresh_session, reset_session, with_channel}
+use Rattle.uicc_channels.specs.Session.{IsOpen, Suits, channel_at, fresh_session, reset_session}
+use Rattle.uicc_channels.specs.Session.{with_channel}
 use Rattle.uicc_channels.specs.declared.chan.Chan.{Chan}
 use Rattle.uicc_channels.specs.declared.session.Session.{Session}
 use Rattle.uicc_channels.specs.declared.session.TheConstants.{CHANNELS}

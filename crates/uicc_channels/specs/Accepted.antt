@@ -7,7 +7,8 @@ use Rattle.uicc_channels.specs.declared.session.Session.{Session}
 -- 9000, 910B, 61XX, 6283 and 6285; with every other status word a command is refused
 abbrev pub is_accepted : Sw → Bool
 is_accepted sw =
-    (sw.0 == 0x9000) || (sw.0 == 0x910B) || (sw.0 / 256 == 0x61) || (sw.0 == 0x6283) || (sw.0 == 0x6285)
+    (sw.0 == 0x9000) || (sw.0 == 0x910B) || (sw.0 / 256 == 0x61)
+    || (sw.0 == 0x6283) || (sw.0 == 0x6285)
 
 -- where a command isn't accepted its status word is the whole answer, and nothing changes
 abbrev pub IsDoneOrRefused : Session → CommandOutcome → Type 0

@@ -1,4 +1,5 @@
-use Rattle.std.specs.Prelude.{ℕ, true, false, ◌≡◌, ◌⊎◌, List, [], Option, None, IfSome, IsSomeAnd, IsTrue, option_and_then}
+use Rattle.std.specs.Prelude.{ℕ, true, false, ◌≡◌, ◌⊎◌, List, [], Option, None, IfSome, IsSomeAnd}
+use Rattle.std.specs.Prelude.{IsTrue, option_and_then}
 use Rattle.file_rows.specs.Content.{file_at}
 use Rattle.file_rows.specs.FileHead.{HasRecord, holds_files}
 use Rattle.file_rows.specs.Path.{master}

@@ -36,6 +36,7 @@ LeavesOthers before number after =
     (other : ℕ) → other ≢ number → channel_at after other ≡ channel_at before other
 
 -- a command stays on its channel: every other one is as it was, and nothing but channels changes
-pub record StaysOnChannel (session : Session) (channel : ℕ) (outcome : CommandOutcome) : Type 0 where
+pub record StaysOnChannel (session : Session) (channel : ℕ) (outcome : CommandOutcome)
+    : Type 0 where
   pub others : LeavesOthers session channel outcome.session
   pub alone : ChangesChannelsAlone session outcome

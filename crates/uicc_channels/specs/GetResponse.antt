@@ -1,5 +1,6 @@
 -- GET RESPONSE (ETSI TS 102 221): the bytes of an answer that wait on the channel, from the front.
-use Rattle.std.specs.Prelude.{ℕ, ◌==◌, ◌&&◌, ◌||◌, nat_le, if◌then◌else◌, List, [], ◌∷◌, length, take, drop, Option, Some, None, unwrap_or}
+use Rattle.std.specs.Prelude.{ℕ, ◌==◌, ◌&&◌, ◌||◌, nat_le, if◌then◌else◌, List, [], ◌∷◌, length}
+use Rattle.std.specs.Prelude.{take, drop, Option, Some, None, unwrap_or}
 use Rattle.apdu_codec.specs.Command.{Apdu}
 use Rattle.apdu_codec.specs.Sw.{bytes_waiting, wrong_le}
 use Rattle.apdu_codec.specs.declared.status.Sw.{Sw}

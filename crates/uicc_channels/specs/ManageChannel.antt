@@ -1,10 +1,12 @@
 -- MANAGE CHANNEL (ETSI TS 102 221): a logical channel is opened or closed.
-use Rattle.std.specs.Prelude.{ℕ, Bool, not, ◌==◌, ◌&&◌, ◌||◌, if◌then◌else◌, [], ◌∷◌, length, map, Option, Some, None, is_some, unwrap_or}
+use Rattle.std.specs.Prelude.{ℕ, Bool, not, ◌==◌, ◌&&◌, ◌||◌, if◌then◌else◌, [], ◌∷◌, length, map}
+use Rattle.std.specs.Prelude.{Option, Some, None, is_some, unwrap_or}
 use Rattle.apdu_codec.specs.Answer.{status_alone}
 use Rattle.apdu_codec.specs.Class.{is_within}
 use Rattle.apdu_codec.specs.Command.{Apdu}
 use Rattle.apdu_codec.specs.declared.status.Sw.{Sw}
-use Rattle.apdu_codec.specs.declared.status.TheConstants.Sw.{CHANNEL_NOT_SUPPORTED, FUNCTION_NOT_SUPPORTED, OK}
+use Rattle.apdu_codec.specs.declared.status.TheConstants.Sw.{CHANNEL_NOT_SUPPORTED}
+use Rattle.apdu_codec.specs.declared.status.TheConstants.Sw.{FUNCTION_NOT_SUPPORTED, OK}
 use Rattle.plain_lists.specs.FirstOf.{first_of}
 use Rattle.uicc_channels.specs.Chan.{at_master}
 use Rattle.uicc_channels.specs.CommandOutcome.{CommandOutcome, answering}

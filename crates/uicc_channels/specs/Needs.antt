@@ -2,7 +2,11 @@ use Rattle.std.specs.Prelude.{Bool, true, List, [], ◌∷◌, Option, Some, Non
 use Rattle.apdu_codec.specs.Command.{Apdu}
 use Rattle.apdu_codec.specs.Ins.{class_fits}
 use Rattle.apdu_codec.specs.declared.status.Sw.{Sw}
-use Rattle.apdu_codec.specs.declared.status.TheConstants.Sw.{CHANNEL_NOT_SUPPORTED, INCOMPATIBLE_STRUCTURE, SECURITY_NOT_SATISFIED, WRONG_CLASS, WRONG_INSTRUCTION, WRONG_LENGTH, WRONG_P1_P2}
+use Rattle.apdu_codec.specs.declared.status.TheConstants.Sw.{CHANNEL_NOT_SUPPORTED}
+use Rattle.apdu_codec.specs.declared.status.TheConstants.Sw.{INCOMPATIBLE_STRUCTURE}
+use Rattle.apdu_codec.specs.declared.status.TheConstants.Sw.{SECURITY_NOT_SATISFIED, WRONG_CLASS}
+use Rattle.apdu_codec.specs.declared.status.TheConstants.Sw.{WRONG_INSTRUCTION, WRONG_LENGTH}
+use Rattle.apdu_codec.specs.declared.status.TheConstants.Sw.{WRONG_P1_P2}
 use Rattle.uicc_channels.specs.Session.{channel_at}
 use Rattle.uicc_channels.specs.declared.session.Session.{Session}
 

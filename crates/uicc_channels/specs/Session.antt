@@ -1,4 +1,6 @@
-use Rattle.std.specs.Prelude.{ℕ, ◌-◌, ◌≡◌, Bool, List, ◌∷◌, length, replicate, slice_index_or, slice_set, Option, Some, None, IfSome, IsSome, option_map, unwrap_or, if◌then◌else◌}
+use Rattle.std.specs.Prelude.{ℕ, ◌-◌, ◌≡◌, Bool, List, ◌∷◌, length, replicate, slice_index_or}
+use Rattle.std.specs.Prelude.{slice_set, Option, Some, None, IfSome, IsSome, option_map, unwrap_or}
+use Rattle.std.specs.Prelude.{if◌then◌else◌}
 use Rattle.file_rows.specs.declared.row.FileRow.{FileRow}
 use Rattle.uicc_channels.specs.Chan.{StandsAmong, at_isdr, at_master, holding}
 use Rattle.uicc_channels.specs.declared.chan.Chan.{Chan}

@@ -2,7 +2,8 @@ ghost use Rattle.std.specs.Prelude.{◌≡◌, ◌≤◌, length, take, drop, So
 ghost use Rattle.apdu_codec.specs.Command.{apdu_of};
 ghost use Rattle.uicc_channels.specs.CommandOutcome.{outcome_of};
 ghost use Rattle.uicc_channels.specs.CommandRow.{Follows, decided};
-ghost use Rattle.uicc_channels.specs.GetResponse.{get_response_row, giving, giving_refusal, rest_status};
+ghost use Rattle.uicc_channels.specs.GetResponse.{get_response_row, giving, giving_refusal};
+ghost use Rattle.uicc_channels.specs.GetResponse.{rest_status};
 ghost use Rattle.uicc_channels.specs.Session.{IsOpen, open_channel, with_pending};
 ghost use Rattle.uicc_channels.specs.SessionChange.{no_change, session_after};
 

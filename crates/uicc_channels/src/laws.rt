@@ -1,4 +1,5 @@
-ghost use Rattle.std.specs.Prelude.{◌≡◌, ◌≢◌, ◌<◌, ◌≤◌, ◌^◌, ℕ, Bool, List, Option, Some, None, IsSome};
+ghost use Rattle.std.specs.Prelude.{◌≡◌, ◌≢◌, ◌<◌, ◌≤◌, ◌^◌, ℕ, Bool, List, Option, Some, None};
+ghost use Rattle.std.specs.Prelude.{IsSome};
 ghost use Rattle.apdu_codec.specs.Command.{Apdu};
 ghost use Rattle.file_rows.specs.Content.{IsValid};
 ghost use Rattle.file_rows.specs.declared.content.Content.{Content};

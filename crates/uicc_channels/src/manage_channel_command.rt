@@ -3,7 +3,9 @@ ghost use Rattle.apdu_codec.specs.Command.{apdu_of};
 ghost use Rattle.apdu_codec.specs.declared.status.TheConstants.Sw.{CHANNEL_NOT_SUPPORTED};
 ghost use Rattle.uicc_channels.specs.CommandOutcome.{outcome_of};
 ghost use Rattle.uicc_channels.specs.CommandRow.{Follows, decided};
-ghost use Rattle.uicc_channels.specs.ManageChannel.{are_channel_lengths, closing, is_closing, is_opening, lowest_closed, manage_channel_row, opened_from, opening, opening_refusal};
+ghost use Rattle.uicc_channels.specs.ManageChannel.{are_channel_lengths, closing, is_closing};
+ghost use Rattle.uicc_channels.specs.ManageChannel.{is_opening, lowest_closed, manage_channel_row};
+ghost use Rattle.uicc_channels.specs.ManageChannel.{opened_from, opening, opening_refusal};
 ghost use Rattle.uicc_channels.specs.Needs.{refused_unless};
 ghost use Rattle.uicc_channels.specs.Session.{IsOpen, channel_at};
 
@@ -22,10 +24,10 @@ use apdu_codec::{Command, Sw};
 /// another one it has that one's application and directory, with no EF and nothing waiting. P1 80
 /// closes channel P2, from 1 to 3, with what waits there; a channel may close itself.
 ///
-/// The UICC's own class is `6E00`, other P1 and P2 are `6A86`. A body is `6700`, and so is no Le where a channel with the ISD-R
-/// opens another; an Le on closing is passed over. No channel that is closed is `6A81`, an Le other
-/// than 00 and 01 on opening `6C01`, closing a channel that isn't open `6881`. All other channels
-/// stay as they are. It takes no memory.
+/// The UICC's own class is `6E00`, other P1 and P2 are `6A86`. A body is `6700`, and so is no Le
+/// where a channel with the ISD-R opens another; an Le on closing is passed over. No channel that
+/// is closed is `6A81`, an Le other than 00 and 01 on opening `6C01`, closing a channel that isn't
+/// open `6881`. All other channels stay as they are. It takes no memory.
 pub fn manage_channel(session: &Session, command: &Command, into: &mut Decided)
     requires open { IsOpen session.now command.now.channel }
     ensures { outcome_of session.now into.new

@@ -1,5 +1,6 @@
 ghost use Rattle.std.specs.Prelude.{◌≡◌, ◌+◌, ◌<◌, ◌≤◌, ◌++◌, length, IfSome, option_copied};
-ghost use Rattle.uicc_channels.specs.Session.{IsOpen, channel_at, fresh_session, open_channel, reset_session};
+ghost use Rattle.uicc_channels.specs.Session.{IsOpen, channel_at, fresh_session, open_channel};
+ghost use Rattle.uicc_channels.specs.Session.{reset_session};
 ghost use Rattle.uicc_channels.specs.Verified.{verified_after};
 ghost use Rattle.file_rows.specs.PinRow.{is_verified};
 

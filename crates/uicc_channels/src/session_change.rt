@@ -1,7 +1,8 @@
 //! What a command does to the session of its card.
 ghost use Rattle.std.specs.Prelude.{◌≡◌, ◌<◌, length, Some, None, option_map};
 ghost use Rattle.uicc_channels.specs.Session.{channel_at, with_channel};
-ghost use Rattle.uicc_channels.specs.SessionChange.{no_change, own_change, session_after, with_end, with_place, with_states, within_end};
+ghost use Rattle.uicc_channels.specs.SessionChange.{no_change, own_change, session_after, with_end};
+ghost use Rattle.uicc_channels.specs.SessionChange.{with_place, with_states, within_end};
 
 use crate::session::copy_place;
 use crate::{Chan, Refresh, Session};

@@ -1,4 +1,5 @@
-use Rattle.std.proofs.Common.{◌≡◌, ◌≤◌, ◌+◌, ℕ, Bool, true, false, cond, List, length, refl, Some, None, arith}
+use Rattle.std.proofs.Common.{◌≡◌, ◌≤◌, ◌+◌, ℕ, Bool, true, false, cond, List, length, refl, Some}
+use Rattle.std.proofs.Common.{None, arith}
 use Rattle.std.proofs.lemmas.Bool.Decides.{nat_tests}
 use Rattle.std.specs.Prelude.{nat_le, nat_lt}
 use Rattle.apdu_codec.specs.Command.{Apdu}
@@ -10,7 +11,8 @@ use Rattle.file_rows.specs.FileHead.{holds_files, is_transparent}
 use Rattle.file_rows.specs.declared.change.Change.TheVariants.{WriteRange}
 use Rattle.file_rows.specs.declared.content.Content.{Content}
 use Rattle.file_rows.specs.declared.head.Kind.{Kind}
-use Rattle.file_rows.specs.declared.head.Kind.TheVariants.{Master, Directory, Application, Transparent, Linear, Cyclic}
+use Rattle.file_rows.specs.declared.head.Kind.TheVariants.{Master, Directory, Application}
+use Rattle.file_rows.specs.declared.head.Kind.TheVariants.{Transparent, Linear, Cyclic}
 use Rattle.file_rows.specs.declared.mode.Mode.{Mode}
 use Rattle.file_rows.specs.declared.row.FileRow.{FileRow}
 use Rattle.uicc_channels.specs.CommandRow.{decided}
@@ -21,7 +23,8 @@ use Rattle.uicc_channels.proofs.CarryLemmas.{stands_open}
 use Rattle.uicc_data.proofs.CarryLemmas.{CanCarryOut-refused, apart_rows, at_its_path}
 use Rattle.uicc_data.proofs.RowLemmas.{on_file-has, where_named-has}
 use Rattle.uicc_data.proofs.SuitsLemmas.{Suits-using, Suits-written, named_among, pointer_stands}
-use Rattle.uicc_data.specs.Binary.{binary_place, read_binary_row, reading, update_binary_row, write_refusal, writing}
+use Rattle.uicc_data.specs.Binary.{binary_place, read_binary_row, reading, update_binary_row}
+use Rattle.uicc_data.specs.Binary.{write_refusal, writing}
 use Rattle.uicc_channels.specs.CarriesOut.{CanCarryOut}
 use Rattle.uicc_data.specs.FileReference.{file_named, not_there, pointer_at, using}
 use Rattle.uicc_data.specs.FileUse.{needs_of_reading, needs_of_writing}

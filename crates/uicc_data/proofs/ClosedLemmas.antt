@@ -9,11 +9,14 @@ use Rattle.uicc_channels.specs.CommandRow.{CommandRow}
 use Rattle.uicc_channels.specs.Needs.{Needs}
 use Rattle.uicc_channels.specs.Session.{channel_at, open_channel}
 use Rattle.uicc_channels.specs.declared.session.Session.{Session}
-use Rattle.uicc_data.specs.Binary.{binary_place, reading, read_binary_row, update_binary_row, writing}
+use Rattle.uicc_data.specs.Binary.{binary_place, reading, read_binary_row, update_binary_row}
+use Rattle.uicc_data.specs.Binary.{writing}
 use Rattle.uicc_data.specs.FileReference.{file_named, not_there}
-use Rattle.uicc_data.specs.FileUse.{FileUse, needs_of_reading, needs_of_writing, on_file, on_named, where_named}
+use Rattle.uicc_data.specs.FileUse.{FileUse, needs_of_reading, needs_of_writing, on_file, on_named}
+use Rattle.uicc_data.specs.FileUse.{where_named}
 use Rattle.uicc_data.specs.Increase.{increase_file, increase_row, increasing}
-use Rattle.uicc_data.specs.Record.{read_record_row, reading_record, record_place, update_record_row, writing_record}
+use Rattle.uicc_data.specs.Record.{read_record_row, reading_record, record_place, update_record_row}
+use Rattle.uicc_data.specs.Record.{writing_record}
 use Rattle.uicc_data.specs.Search.{search_place, search_record_row, searching}
 use Rattle.uicc_data.specs.declared.reference.FileReference.{FileReference}
 

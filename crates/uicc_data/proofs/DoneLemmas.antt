@@ -1,5 +1,6 @@
 -- A command on data is accepted or changes nothing, and writes into the file that it works on alone.
-use Rattle.std.proofs.Common.{◌≡◌, ℕ, Bool, true, false, cond, List, [], ◌∷◌, ◌++◌, refl, ◌∙◌, Option, Some, None}
+use Rattle.std.proofs.Common.{◌≡◌, ℕ, Bool, true, false, cond, List, [], ◌∷◌, ◌++◌, refl, ◌∙◌}
+use Rattle.std.proofs.Common.{Option, Some, None}
 use Rattle.std.specs.Prelude.{◌==◌}
 use Rattle.apdu_codec.specs.Command.{Apdu}
 use Rattle.apdu_codec.specs.declared.status.Sw.{Sw}
@@ -17,18 +18,23 @@ use Rattle.uicc_channels.specs.Delivery.{waiting}
 use Rattle.uicc_channels.specs.Needs.{refused_unless}
 use Rattle.uicc_channels.specs.Session.{open_channel}
 use Rattle.uicc_channels.specs.declared.session.Session.{Session}
-use Rattle.uicc_data.proofs.OutcomeLemmas.{increase-has, read_binary-has, read_record-has, search_record-has, update_binary-has, update_record-has}
+use Rattle.uicc_data.proofs.OutcomeLemmas.{increase-has, read_binary-has, read_record-has}
+use Rattle.uicc_data.proofs.OutcomeLemmas.{search_record-has, update_binary-has, update_record-has}
 use Rattle.uicc_data.proofs.RecordCarryLemmas.{at_record-has}
 use Rattle.uicc_data.proofs.RowLemmas.{on_file-has, where_named-has}
-use Rattle.uicc_data.specs.Binary.{binary_place, read_binary_row, reading, update_binary_row, writing}
+use Rattle.uicc_data.specs.Binary.{binary_place, read_binary_row, reading, update_binary_row}
+use Rattle.uicc_data.specs.Binary.{writing}
 use Rattle.uicc_data.specs.Data.{data_row}
 use Rattle.uicc_data.specs.FileReference.{file_named, not_there, pointer_at, using}
 use Rattle.uicc_data.specs.FileUse.{needs_of_reading, needs_of_writing}
-use Rattle.uicc_data.specs.Increase.{can_be_added, giving_sum, increase_file, increase_row, increasing}
+use Rattle.uicc_data.specs.Increase.{can_be_added, giving_sum, increase_file, increase_row}
+use Rattle.uicc_data.specs.Increase.{increasing}
 use Rattle.uicc_data.specs.Number.{sum_of}
-use Rattle.uicc_data.specs.Record.{read_record_row, reading_number, reading_record, record_place, update_record_row, write_place, writing_number, writing_record}
+use Rattle.uicc_data.specs.Record.{read_record_row, reading_number, reading_record, record_place}
+use Rattle.uicc_data.specs.Record.{update_record_row, write_place, writing_number, writing_record}
 use Rattle.uicc_data.specs.RecordWalk.{record_bytes, record_in}
-use Rattle.uicc_data.specs.Search.{found_from, giving_numbers, search_place, search_record_row, search_start, searching}
+use Rattle.uicc_data.specs.Search.{found_from, giving_numbers, search_place, search_record_row}
+use Rattle.uicc_data.specs.Search.{search_start, searching}
 use Rattle.uicc_data.specs.WorksOn.{WritesWhereItWorks}
 use Rattle.uicc_data.specs.declared.reference.FileReference.{FileReference}
 

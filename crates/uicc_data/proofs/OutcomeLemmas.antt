@@ -1,5 +1,6 @@
 -- What each command on data may come to.
-use Rattle.std.proofs.Common.{◌≡◌, ℕ, Bool, List, [], ◌∷◌, ◌++◌, refl, sym, ◌∙◌, ap, Option, Some, None}
+use Rattle.std.proofs.Common.{◌≡◌, ℕ, Bool, List, [], ◌∷◌, ◌++◌, refl, sym, ◌∙◌, ap, Option, Some}
+use Rattle.std.proofs.Common.{None}
 use Rattle.std.proofs.lemmas.List.{set-get_or}
 use Rattle.apdu_codec.specs.Command.{Apdu}
 use Rattle.apdu_codec.specs.declared.answers.Answer.{Answer}
@@ -19,15 +20,19 @@ use Rattle.uicc_data.proofs.RecordCarryLemmas.{at_record-has}
 use Rattle.uicc_channels.proofs.NeedsLemmas.{first_none, rest_none}
 use Rattle.uicc_data.proofs.RowLemmas.{on_file-has, where_named-has}
 use Rattle.uicc_data.proofs.SearchLemmas.{waiting_moved}
-use Rattle.uicc_data.specs.Binary.{binary_place, read_binary_row, reading, update_binary_row, writing}
+use Rattle.uicc_data.specs.Binary.{binary_place, read_binary_row, reading, update_binary_row}
+use Rattle.uicc_data.specs.Binary.{writing}
 use Rattle.uicc_data.specs.FileReference.{file_named, not_there, pointer_at, standing_on, using}
 use Rattle.uicc_data.specs.Moves.{MovesAlone, MovesAndWaits}
 use Rattle.uicc_data.specs.FileUse.{needs_of_reading, needs_of_writing}
-use Rattle.uicc_data.specs.Increase.{can_be_added, giving_sum, increase_file, increase_row, increasing}
+use Rattle.uicc_data.specs.Increase.{can_be_added, giving_sum, increase_file, increase_row}
+use Rattle.uicc_data.specs.Increase.{increasing}
 use Rattle.uicc_data.specs.Number.{sum_of}
-use Rattle.uicc_data.specs.Record.{read_record_row, reading_number, reading_record, record_place, update_record_row, write_place, writing_number, writing_record}
+use Rattle.uicc_data.specs.Record.{read_record_row, reading_number, reading_record, record_place}
+use Rattle.uicc_data.specs.Record.{update_record_row, write_place, writing_number, writing_record}
 use Rattle.uicc_data.specs.RecordWalk.{record_bytes, record_in}
-use Rattle.uicc_data.specs.Search.{found_from, giving_numbers, search_place, search_record_row, search_start, searching}
+use Rattle.uicc_data.specs.Search.{found_from, giving_numbers, search_place, search_record_row}
+use Rattle.uicc_data.specs.Search.{search_start, searching}
 
 module _ (P : CommandOutcome → Type 0) (rows : List FileRow) (allowed : List ℕ → Mode → Bool) (session : Session) (c : Apdu) (where_refused : (sw : Sw) → P (refused session sw)) where
   abbrev left_on : List ℕ → ℕ → Answer → Option Change → CommandOutcome

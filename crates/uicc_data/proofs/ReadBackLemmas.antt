@@ -1,5 +1,7 @@
 -- What is written is read back.
-use Rattle.std.proofs.Common.{◌≡◌, ◌≤◌, ◌+◌, ℕ, Bool, true, false, cond, ◌&&◌, List, [], ◌∷◌, ◌++◌, length, append_assoc, length-take-le, take, drop, find, refl, sym, ◌∙◌, ap, subst, Option, Some, None, arith}
+use Rattle.std.proofs.Common.{◌≡◌, ◌≤◌, ◌+◌, ℕ, Bool, true, false, cond, ◌&&◌, List, [], ◌∷◌, ◌++◌}
+use Rattle.std.proofs.Common.{length, append_assoc, length-take-le, take, drop, find, refl, sym}
+use Rattle.std.proofs.Common.{◌∙◌, ap, subst, Option, Some, None, arith}
 use Rattle.std.proofs.Math.Seq.{drop-append_seam, take-append_seam}
 use Rattle.std.specs.Option.{unwrap_or}
 use Rattle.std.specs.Prelude.{◌==◌}
@@ -28,9 +30,11 @@ use Rattle.uicc_data.proofs.CarryLemmas.{apart_rows}
 use Rattle.uicc_data.proofs.RowLemmas.{named-has, on_file-has}
 use Rattle.uicc_data.proofs.SearchLemmas.{within}
 use Rattle.uicc_data.proofs.SuitsLemmas.{named_among, same_head, written_rows}
-use Rattle.uicc_data.specs.Binary.{binary_place, read_binary_row, reading, update_binary_row, write_refusal, writing}
+use Rattle.uicc_data.specs.Binary.{binary_place, read_binary_row, reading, update_binary_row}
+use Rattle.uicc_data.specs.Binary.{write_refusal, writing}
 use Rattle.uicc_data.specs.FileReference.{file_named, not_there, pointer_at, standing_on, using}
-use Rattle.uicc_data.specs.FileUse.{needs_of_reading, needs_of_writing, on_file, on_named, where_named}
+use Rattle.uicc_data.specs.FileUse.{needs_of_reading, needs_of_writing, on_file, on_named}
+use Rattle.uicc_data.specs.FileUse.{where_named}
 use Rattle.uicc_data.specs.ReadBack.{ReadsBack, read_outcome, update_outcome}
 use Rattle.uicc_data.specs.declared.binary.BinaryPlace.{BinaryPlace}
 use Rattle.uicc_data.specs.declared.reference.FileReference.{FileReference}

@@ -1,5 +1,6 @@
 -- A record that was written is read back.
-use Rattle.std.proofs.Common.{◌≡◌, ◌⊎◌, ◌≤◌, ◌%◌, ℕ, Bool, true, false, cond, List, length, refl, sym, ◌∙◌, ap, subst, inl, inr, Option, Some, None, arith}
+use Rattle.std.proofs.Common.{◌≡◌, ◌⊎◌, ◌≤◌, ◌%◌, ℕ, Bool, true, false, cond, List, length, refl}
+use Rattle.std.proofs.Common.{sym, ◌∙◌, ap, subst, inl, inr, Option, Some, None, arith}
 use Rattle.std.proofs.lemmas.Bool.Decides.{nat_tests}
 use Rattle.std.specs.Option.{option_map}
 use Rattle.std.specs.Prelude.{◌==◌, ◌||◌, nat_lt, option_and_then}
@@ -20,16 +21,22 @@ use Rattle.uicc_channels.specs.CommandRow.{decided, refusal_of}
 use Rattle.uicc_channels.specs.Session.{IsOpen, Suits, open_channel}
 use Rattle.uicc_channels.specs.declared.session.Session.{Session}
 use Rattle.uicc_data.proofs.ReadBackLemmas.{done_where_taken, named_written, stands_there}
-use Rattle.uicc_data.proofs.RecordCarryLemmas.{IsWritable, OnRecords, at_record-has, exact_record, on_records, updatable, write_place_is}
+use Rattle.uicc_data.proofs.RecordCarryLemmas.{IsWritable, OnRecords, at_record-has, exact_record}
+use Rattle.uicc_data.proofs.RecordCarryLemmas.{on_records, updatable, write_place_is}
 use Rattle.uicc_data.proofs.RecordLemmas.{up_to_count}
 use Rattle.uicc_data.proofs.RowLemmas.{named-has, on_file-has}
 use Rattle.uicc_data.proofs.SuitsLemmas.{written_rows}
 use Rattle.uicc_data.proofs.WriteLemmas.{first_written, record_written}
 use Rattle.uicc_data.specs.FileReference.{file_named, not_there, pointer_at, standing_on, using}
-use Rattle.uicc_data.specs.FileUse.{needs_of_reading, needs_of_writing, on_file, on_named, where_named}
-use Rattle.uicc_data.specs.Record.{at_record, is_previous, read_record_row, reading_number, reading_record, record_file, record_name, record_place, update_record_row, write_place, writing_number, writing_record}
-use Rattle.uicc_data.specs.RecordReadBack.{ReadsRecordBack, number_written, record_read_outcome, record_update_outcome}
-use Rattle.uicc_data.specs.RecordWalk.{HoldsWholeRecords, record_bytes, record_count, record_in, record_numbered}
+use Rattle.uicc_data.specs.FileUse.{needs_of_reading, needs_of_writing, on_file, on_named}
+use Rattle.uicc_data.specs.FileUse.{where_named}
+use Rattle.uicc_data.specs.Record.{at_record, is_previous, read_record_row, reading_number}
+use Rattle.uicc_data.specs.Record.{reading_record, record_file, record_name, record_place}
+use Rattle.uicc_data.specs.Record.{update_record_row, write_place, writing_number, writing_record}
+use Rattle.uicc_data.specs.RecordReadBack.{ReadsRecordBack, number_written, record_read_outcome}
+use Rattle.uicc_data.specs.RecordReadBack.{record_update_outcome}
+use Rattle.uicc_data.specs.RecordWalk.{HoldsWholeRecords, record_bytes, record_count, record_in}
+use Rattle.uicc_data.specs.RecordWalk.{record_numbered}
 use Rattle.uicc_data.specs.declared.record_update.WritePlace.{WritePlace}
 use Rattle.uicc_data.specs.declared.reference.FileReference.{FileReference}
 use Rattle.uicc_data.specs.declared.walk.RecordName.{RecordName}

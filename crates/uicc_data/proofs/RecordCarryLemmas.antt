@@ -1,5 +1,6 @@
 -- A card can carry out what READ RECORD and UPDATE RECORD come to.
-use Rattle.std.proofs.Common.{◌≡◌, ◌⊎◌, ℕ, Bool, true, false, cond, ◌&&◌, ◌||◌, List, length, refl, subst, inl, inr, ⊎_elim, Option, Some, None, IfSome, arith}
+use Rattle.std.proofs.Common.{◌≡◌, ◌⊎◌, ℕ, Bool, true, false, cond, ◌&&◌, ◌||◌, List, length, refl}
+use Rattle.std.proofs.Common.{subst, inl, inr, ⊎_elim, Option, Some, None, IfSome, arith}
 use Rattle.std.proofs.lemmas.Bool.Decides.{Decides-eqb}
 use Rattle.std.specs.Option.{option_map}
 use Rattle.std.specs.Prelude.{◌==◌}
@@ -13,7 +14,8 @@ use Rattle.file_rows.specs.declared.change.Change.TheVariants.{WriteRecord}
 use Rattle.file_rows.specs.declared.content.Content.{Content}
 use Rattle.file_rows.specs.declared.head.FileHead.{FileHead}
 use Rattle.file_rows.specs.declared.head.Kind.{Kind}
-use Rattle.file_rows.specs.declared.head.Kind.TheVariants.{Master, Directory, Application, Transparent, Linear, Cyclic}
+use Rattle.file_rows.specs.declared.head.Kind.TheVariants.{Master, Directory, Application}
+use Rattle.file_rows.specs.declared.head.Kind.TheVariants.{Transparent, Linear, Cyclic}
 use Rattle.file_rows.specs.declared.mode.Mode.{Mode}
 use Rattle.file_rows.specs.declared.row.FileRow.{FileRow}
 use Rattle.uicc_channels.proofs.AmongLemmas.{IsAmong}
@@ -33,7 +35,9 @@ use Rattle.uicc_data.proofs.SuitsLemmas.{Suits-using, Suits-written, named_among
 use Rattle.uicc_channels.specs.CarriesOut.{CanCarryOut}
 use Rattle.uicc_data.specs.FileReference.{file_named, not_there, pointer_at}
 use Rattle.uicc_data.specs.FileUse.{needs_of_reading, needs_of_writing}
-use Rattle.uicc_data.specs.Record.{RecordUse, at_record, is_previous, new_first_record, read_record_row, reading_number, reading_record, record_place, update_record_row, write_place, writing_number, writing_record}
+use Rattle.uicc_data.specs.Record.{RecordUse, at_record, is_previous, new_first_record}
+use Rattle.uicc_data.specs.Record.{read_record_row, reading_number, reading_record, record_place}
+use Rattle.uicc_data.specs.Record.{update_record_row, write_place, writing_number, writing_record}
 use Rattle.uicc_data.specs.RecordWalk.{HoldsWholeRecords, IsPointerIn, pointer_after, record_in}
 use Rattle.uicc_data.specs.declared.record_update.WritePlace.{WritePlace}
 use Rattle.uicc_data.specs.declared.reference.FileReference.{FileReference}

@@ -1,4 +1,6 @@
-use Rattle.std.proofs.Common.{◌≡◌, ◌≤◌, ◌+◌, ◌-◌, ◌*◌, ◌/◌, ℕ, Bool, true, false, cond, ◌||◌, List, [], ◌∷◌, length, map, Contains, refl, sym, ◌∙◌, ap, subst, ⊎_elim, Option, Some, None, IfSome, arith}
+use Rattle.std.proofs.Common.{◌≡◌, ◌≤◌, ◌+◌, ◌-◌, ◌*◌, ◌/◌, ℕ, Bool, true, false, cond, ◌||◌, List}
+use Rattle.std.proofs.Common.{[], ◌∷◌, length, map, Contains, refl, sym, ◌∙◌, ap, subst, ⊎_elim}
+use Rattle.std.proofs.Common.{Option, Some, None, IfSome, arith}
 use Rattle.std.proofs.Math.Nat.{mul-div_cancel}
 use Rattle.std.proofs.lemmas.Bool.Decides.{nat_tests}
 use Rattle.std.proofs.lemmas.Nat.{le-div}
@@ -6,15 +8,18 @@ use Rattle.std.specs.List.{AllByRecursion}
 use Rattle.std.specs.Prelude.{◌==◌, nat_lt}
 use Rattle.file_rows.proofs.FilesLemmas.{formed_of}
 use Rattle.file_rows.proofs.ListLemmas.{contains_cases}
-use Rattle.file_rows.specs.FileHead.{HasForm, HasRecord, HoldsRecords, IsFile, has_records, is_cyclic}
+use Rattle.file_rows.specs.FileHead.{HasForm, HasRecord, HoldsRecords, IsFile, has_records}
+use Rattle.file_rows.specs.FileHead.{is_cyclic}
 use Rattle.file_rows.specs.declared.head.FileHead.{FileHead}
 use Rattle.file_rows.specs.declared.head.Kind.{Kind}
-use Rattle.file_rows.specs.declared.head.Kind.TheVariants.{Master, Directory, Application, Transparent, Linear, Cyclic}
+use Rattle.file_rows.specs.declared.head.Kind.TheVariants.{Master, Directory, Application}
+use Rattle.file_rows.specs.declared.head.Kind.TheVariants.{Transparent, Linear, Cyclic}
 use Rattle.file_rows.specs.declared.row.FileRow.{FileRow}
 use Rattle.uicc_tree.proofs.GivesLemmas.{nothing_there}
 use Rattle.uicc_tree.specs.Change.{AreRows, IsRow}
 use Rattle.uicc_tree.specs.Files.{Files, IsLive, file_of, rows_of}
-use Rattle.uicc_data.specs.RecordWalk.{HoldsWholeRecords, IsPointerIn, next_record, previous_record, record_count, record_in, number_named, record_numbered}
+use Rattle.uicc_data.specs.RecordWalk.{HoldsWholeRecords, IsPointerIn, next_record, previous_record}
+use Rattle.uicc_data.specs.RecordWalk.{record_count, record_in, number_named, record_numbered}
 use Rattle.uicc_data.specs.declared.walk.RecordName.{RecordName}
 use Rattle.uicc_data.specs.declared.walk.RecordName.TheVariants.{Next, Previous, Absolute, Current}
 

@@ -1,5 +1,7 @@
 -- A card can carry out what SEARCH RECORD and INCREASE come to.
-use Rattle.std.proofs.Common.{◌≡◌, ◌≤◌, ◌+◌, ◌-◌, ◌*◌, ◌%◌, ◌^◌, ℕ, zero, suc, Bool, true, false, cond, List, [], ◌∷◌, ◌++◌, length, length-take-le, length-drop, drop, refl, sym, ◌∙◌, ap, inr, Option, Some, None, IfSome, arith}
+use Rattle.std.proofs.Common.{◌≡◌, ◌≤◌, ◌+◌, ◌-◌, ◌*◌, ◌%◌, ◌^◌, ℕ, zero, suc, Bool, true, false}
+use Rattle.std.proofs.Common.{cond, List, [], ◌∷◌, ◌++◌, length, length-take-le, length-drop, drop}
+use Rattle.std.proofs.Common.{refl, sym, ◌∙◌, ap, inr, Option, Some, None, IfSome, arith}
 use Rattle.std.specs.List.{AllByRecursion}
 use Rattle.std.specs.Prelude.{nat_lt}
 use Rattle.apdu_codec.specs.Command.{Apdu}
@@ -24,18 +26,22 @@ use Rattle.uicc_channels.specs.declared.session.Session.{Session}
 use Rattle.uicc_tree.proofs.ApplyLemmas.{row_is}
 use Rattle.uicc_tree.specs.Change.{IsRow}
 use Rattle.uicc_data.proofs.CarryLemmas.{CanCarryOut-refused, apart_rows, at_its_path}
-use Rattle.uicc_data.proofs.RecordCarryLemmas.{OnRecords, are_rows, at_record-has, bare_records, cyclic_kind, if_some, on_records}
-use Rattle.uicc_data.proofs.RecordLemmas.{IsUpTo, cyclic_has, first_record, has_record, record_there, up_to_count}
+use Rattle.uicc_data.proofs.RecordCarryLemmas.{OnRecords, are_rows, at_record-has, bare_records}
+use Rattle.uicc_data.proofs.RecordCarryLemmas.{cyclic_kind, if_some, on_records}
+use Rattle.uicc_data.proofs.RecordLemmas.{IsUpTo, cyclic_has, first_record, has_record}
+use Rattle.uicc_data.proofs.RecordLemmas.{record_there, up_to_count}
 use Rattle.uicc_channels.proofs.NeedsLemmas.{first_none, rest_none}
 use Rattle.uicc_data.proofs.RowLemmas.{on_file-has, where_named-has}
 use Rattle.uicc_data.proofs.SuitsLemmas.{Suits-using, Suits-written, named_among}
 use Rattle.uicc_channels.specs.CarriesOut.{CanCarryOut}
 use Rattle.uicc_data.specs.FileReference.{file_named, not_there, pointer_at, using}
 use Rattle.uicc_data.specs.FileUse.{needs_of_writing}
-use Rattle.uicc_data.specs.Increase.{can_be_added, giving_sum, increase_file, increase_row, increasing}
+use Rattle.uicc_data.specs.Increase.{can_be_added, giving_sum, increase_file, increase_row}
+use Rattle.uicc_data.specs.Increase.{increasing}
 use Rattle.uicc_data.specs.Number.{spelled_in, sum_of, number_spelled}
 use Rattle.uicc_data.specs.RecordWalk.{HoldsWholeRecords, record_bytes, record_count, record_in}
-use Rattle.uicc_data.specs.Search.{found_from, giving_numbers, holds_run, records_left, search_place, search_record_row, search_start, searching, walk}
+use Rattle.uicc_data.specs.Search.{found_from, giving_numbers, holds_run, records_left}
+use Rattle.uicc_data.specs.Search.{search_place, search_record_row, search_start, searching, walk}
 use Rattle.uicc_data.specs.declared.search.Direction.{Direction}
 use Rattle.uicc_data.specs.declared.search.Direction.TheVariants.{Forwards, Backwards}
 

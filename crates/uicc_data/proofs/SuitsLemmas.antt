@@ -1,5 +1,6 @@
 -- A session goes on to suit its card after a command on a file.
-use Rattle.std.proofs.Common.{◌≡◌, ◌⊎◌, ℕ, Bool, true, false, cond, ◌&&◌, List, [], ◌∷◌, find, refl, sym, ap, subst, inl, inr, ⊎_elim, Option, Some, None, IfSome}
+use Rattle.std.proofs.Common.{◌≡◌, ◌⊎◌, ℕ, Bool, true, false, cond, ◌&&◌, List, [], ◌∷◌, find, refl}
+use Rattle.std.proofs.Common.{sym, ap, subst, inl, inr, ⊎_elim, Option, Some, None, IfSome}
 use Rattle.std.specs.Option.{option_and_then}
 use Rattle.std.specs.Prelude.{◌==◌, IsSomeAnd, IsTrue}
 use Rattle.file_rows.specs.Change.{with_body, with_file}

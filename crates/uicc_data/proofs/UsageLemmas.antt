@@ -4,7 +4,9 @@ use Rattle.std.specs.Prelude.{is_some}
 use Rattle.apdu_codec.specs.Command.{Apdu}
 use Rattle.apdu_codec.specs.Ins.{class_fits}
 use Rattle.apdu_codec.specs.declared.status.Sw.{Sw}
-use Rattle.apdu_codec.specs.declared.status.TheConstants.Sw.{INCOMPATIBLE_STRUCTURE, SECURITY_NOT_SATISFIED, WRONG_CLASS, WRONG_LENGTH, WRONG_P1_P2}
+use Rattle.apdu_codec.specs.declared.status.TheConstants.Sw.{INCOMPATIBLE_STRUCTURE}
+use Rattle.apdu_codec.specs.declared.status.TheConstants.Sw.{SECURITY_NOT_SATISFIED, WRONG_CLASS}
+use Rattle.apdu_codec.specs.declared.status.TheConstants.Sw.{WRONG_LENGTH, WRONG_P1_P2}
 use Rattle.file_rows.specs.declared.mode.Mode.{Mode}
 use Rattle.file_rows.specs.declared.row.FileRow.{FileRow}
 use Rattle.plain_lists.specs.FirstOf.{first_of}

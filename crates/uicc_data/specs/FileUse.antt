@@ -1,8 +1,10 @@
-use Rattle.std.specs.Prelude.{ℕ, ◌≡◌, Bool, false, not, ◌==◌, ◌&&◌, List, [], ◌∷◌, length, Option, Some, None, is_some, Result, Ok, Err}
+use Rattle.std.specs.Prelude.{ℕ, ◌≡◌, Bool, false, not, ◌==◌, ◌&&◌, List, [], ◌∷◌, length, Option}
+use Rattle.std.specs.Prelude.{Some, None, is_some, Result, Ok, Err}
 use Rattle.apdu_codec.specs.Answer.{status_alone}
 use Rattle.apdu_codec.specs.Command.{Apdu}
 use Rattle.apdu_codec.specs.declared.status.Sw.{Sw}
-use Rattle.apdu_codec.specs.declared.status.TheConstants.Sw.{INCOMPATIBLE_STRUCTURE, OK, SECURITY_NOT_SATISFIED}
+use Rattle.apdu_codec.specs.declared.status.TheConstants.Sw.{INCOMPATIBLE_STRUCTURE, OK}
+use Rattle.apdu_codec.specs.declared.status.TheConstants.Sw.{SECURITY_NOT_SATISFIED}
 use Rattle.file_rows.specs.declared.head.Life.{Life}
 use Rattle.file_rows.specs.declared.mode.Mode.{Mode}
 use Rattle.file_rows.specs.declared.row.FileRow.{FileRow}

@@ -20,4 +20,5 @@ IsWorkedOn rows chan row = (file : FileReference) × (file_named rows chan file 
 -- a change, where there is one, writes into such a file
 abbrev pub WritesWhereItWorks : List FileRow → Chan → Option Change → Type 0
 WritesWhereItWorks rows chan change =
-    IfSome change (λ change. (row : FileRow) × IsWorkedOn rows chan row × WritesInto row.head.path change)
+    IfSome change (λ change.
+    (row : FileRow) × IsWorkedOn rows chan row × WritesInto row.head.path change)

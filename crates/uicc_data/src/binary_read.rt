@@ -1,4 +1,5 @@
-ghost use Rattle.std.specs.Prelude.{◌≡◌, ◌+◌, ◌-◌, ◌<◌, ◌≤◌, ◌==◌, nat_le, nat_lt, ℕ, Bool, List, length, take, drop, Some, None, MatchResult};
+ghost use Rattle.std.specs.Prelude.{◌≡◌, ◌+◌, ◌-◌, ◌<◌, ◌≤◌, ◌==◌, nat_le, nat_lt, ℕ, Bool, List};
+ghost use Rattle.std.specs.Prelude.{length, take, drop, Some, None, MatchResult};
 ghost use Rattle.apdu_codec.specs.Command.{IsCommand, apdu_of};
 ghost use Rattle.file_rows.specs.FileHead.{is_transparent};
 ghost use Rattle.file_rows.specs.declared.mode.Mode.{Mode};

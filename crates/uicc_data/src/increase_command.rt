@@ -1,4 +1,5 @@
-ghost use Rattle.std.specs.Prelude.{◌≡◌, ◌+◌, ◌≤◌, ◌==◌, ◌++◌, ℕ, Bool, List, length, Some, None, IsTrue, MatchResult};
+ghost use Rattle.std.specs.Prelude.{◌≡◌, ◌+◌, ◌≤◌, ◌==◌, ◌++◌, ℕ, Bool, List, length, Some, None};
+ghost use Rattle.std.specs.Prelude.{IsTrue, MatchResult};
 ghost use Rattle.apdu_codec.specs.Command.{IsCommand, apdu_of};
 ghost use Rattle.file_rows.specs.declared.mode.Mode.{Mode};
 ghost use Rattle.uicc_channels.specs.CommandOutcome.{outcome_of};
@@ -8,7 +9,8 @@ ghost use Rattle.uicc_tree.specs.Change.{AreRows};
 ghost use Rattle.uicc_tree.specs.Files.{IsLive, file_of, rows_of};
 ghost use Rattle.uicc_tree.specs.Access.{AnswersFor};
 ghost use Rattle.uicc_data.specs.FileUse.{FollowsUse};
-ghost use Rattle.uicc_data.specs.Increase.{can_be_added, giving_sum, increase_file, increase_row, increasing};
+ghost use Rattle.uicc_data.specs.Increase.{can_be_added, giving_sum, increase_file, increase_row};
+ghost use Rattle.uicc_data.specs.Increase.{increasing};
 ghost use Rattle.uicc_data.specs.Record.{FollowsRecordUse};
 ghost use Rattle.file_rows.specs.FileHead.{is_cyclic};
 ghost use Rattle.uicc_data.specs.RecordWalk.{record_bytes};

@@ -1,4 +1,5 @@
-ghost use Rattle.std.specs.Prelude.{◌≡◌, ◌≢◌, ◌≤◌, ◌+◌, ◌^◌, ◌++◌, ℕ, Bool, List, length, Some, None, IsTrue};
+ghost use Rattle.std.specs.Prelude.{◌≡◌, ◌≢◌, ◌≤◌, ◌+◌, ◌^◌, ◌++◌, ℕ, Bool, List, length, Some};
+ghost use Rattle.std.specs.Prelude.{None, IsTrue};
 ghost use Rattle.apdu_codec.specs.Command.{Apdu};
 ghost use Rattle.file_rows.specs.Change.{with_body, with_record};
 ghost use Rattle.file_rows.specs.Content.{IsValid};
@@ -140,7 +141,8 @@ pub fn sums_are_of_their_numbers()
 {}
 
 /// A record that is written is those bytes, and every other record stays. A new record 1 of a
-/// cyclic file is those bytes, and each record before it is one further, up to the last, which goes.
+/// cyclic file is those bytes, and each record before it is one further, up to the last, which
+/// goes.
 pub fn written_records_stand_in_their_places()
     ensures written { (row : FileRow) (number : ℕ) (bytes : List ℕ)
         → length row.body ≡ row.head.size → HasRecord row.head number

@@ -5,7 +5,8 @@ ghost use Rattle.uicc_channels.specs.Chan.{IsDirectoryIn, StandsAmong};
 ghost use Rattle.uicc_channels.specs.Session.{IsOpen};
 ghost use Rattle.uicc_channels.specs.SessionChange.{no_change, session_after};
 ghost use Rattle.uicc_tree.specs.Files.{Gives, IsLive, file_of, rows_of};
-ghost use Rattle.uicc_data.specs.FileReference.{file_named, not_there, pointer_at, standing_on, using};
+ghost use Rattle.uicc_data.specs.FileReference.{file_named, not_there, pointer_at, standing_on};
+ghost use Rattle.uicc_data.specs.FileReference.{using};
 ghost use Rattle.uicc_data.specs.RecordWalk.{IsPointerIn};
 
 use apdu_codec::Sw;

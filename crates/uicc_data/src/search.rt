@@ -1,4 +1,5 @@
-ghost use Rattle.std.specs.Prelude.{◌≡◌, ◌+◌, ◌-◌, ◌<◌, ◌≤◌, ◌==◌, cond, ℕ, Bool, List, [], ◌∷◌, ◌++◌, length, nat_eq, Some, None, IsTrue, MatchResult};
+ghost use Rattle.std.specs.Prelude.{◌≡◌, ◌+◌, ◌-◌, ◌<◌, ◌≤◌, ◌==◌, cond, ℕ, Bool, List, [], ◌∷◌};
+ghost use Rattle.std.specs.Prelude.{◌++◌, length, nat_eq, Some, None, IsTrue, MatchResult};
 ghost use Rattle.std.specs.List.{starts_with};
 ghost use Rattle.apdu_codec.specs.Command.{IsCommand, apdu_of};
 ghost use Rattle.file_rows.specs.FileHead.{HasRecord, has_records};
@@ -13,7 +14,9 @@ ghost use Rattle.uicc_data.specs.FileReference.{pointer_at, using};
 ghost use Rattle.uicc_data.specs.FileUse.{FollowsUse};
 ghost use Rattle.uicc_data.specs.Record.{FollowsRecordUse};
 ghost use Rattle.uicc_data.specs.RecordWalk.{IsPointerIn, record_bytes, record_count};
-ghost use Rattle.uicc_data.specs.Search.{after_steps, direction_of, first_one, found_from, giving_numbers, holds_run, records_left, search_place, search_record_row, search_start, searching};
+ghost use Rattle.uicc_data.specs.Search.{after_steps, direction_of, first_one, found_from};
+ghost use Rattle.uicc_data.specs.Search.{giving_numbers, holds_run, records_left, search_place};
+ghost use Rattle.uicc_data.specs.Search.{search_record_row, search_start, searching};
 
 use crate::delivery::deliver_on;
 use crate::reference::{FileReference, find_file, pointer_at};

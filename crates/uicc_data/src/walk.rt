@@ -1,10 +1,14 @@
 //! The records of a file, and the walk over them.
-ghost use Rattle.std.specs.Prelude.{◌≡◌, ◌≤◌, ◌-◌, ◌*◌, ◌/◌, length, take, drop, Some, None, IfSome, IsTrue};
+ghost use Rattle.std.specs.Prelude.{◌≡◌, ◌≤◌, ◌-◌, ◌*◌, ◌/◌, length, take, drop, Some, None};
+ghost use Rattle.std.specs.Prelude.{IfSome, IsTrue};
 ghost use Rattle.file_rows.specs.FileHead.{HasRecord, has_records, is_cyclic};
 ghost use Rattle.uicc_tree.specs.Change.{AreRows};
 ghost use Rattle.uicc_tree.specs.Files.{IsLive, file_of, rows_of};
 ghost use Rattle.uicc_data.specs.Record.{numbered, record_file, record_name, record_place};
-ghost use Rattle.uicc_data.specs.RecordWalk.{HoldsWholeRecords, IsPointerIn, next_record, pointer_after, previous_record, record_bytes, record_count, record_in, number_named, record_numbered};
+ghost use Rattle.uicc_data.specs.RecordWalk.{HoldsWholeRecords, IsPointerIn, next_record};
+ghost use Rattle.uicc_data.specs.RecordWalk.{pointer_after, previous_record, record_bytes};
+ghost use Rattle.uicc_data.specs.RecordWalk.{record_count, record_in, number_named};
+ghost use Rattle.uicc_data.specs.RecordWalk.{record_numbered};
 
 use crate::reference::FileReference;
 use file_rows::Kind;

@@ -1,4 +1,6 @@
-use Rattle.std.proofs.Common.{◌≡◌, ℕ, Bool, true, false, cond, suc, ◌+◌, ◌<◌, List, [], ◌∷◌, ◌++◌, length, get_or, drop, drop-cons, add-one, find, refl, sym, ap, subst, Option, Some, None, IfSome}
+use Rattle.std.proofs.Common.{◌≡◌, ℕ, Bool, true, false, cond, suc, ◌+◌, ◌<◌, List, [], ◌∷◌, ◌++◌}
+use Rattle.std.proofs.Common.{length, get_or, drop, drop-cons, add-one, find, refl, sym, ap, subst}
+use Rattle.std.proofs.Common.{Option, Some, None, IfSome}
 use Rattle.std.specs.Prelude.{◌==◌}
 use Rattle.std.specs.Option.{option_and_then, option_or}
 use Rattle.file_rows.specs.Content.{file_at}
@@ -8,9 +10,11 @@ use Rattle.file_rows.specs.declared.path.TheConstants.{CURRENT_APPLICATION_ID, M
 use Rattle.file_rows.specs.declared.row.FileRow.{FileRow}
 use Rattle.uicc_channels.proofs.AmongLemmas.{AreApart, IsAmong, among_found}
 use Rattle.uicc_channels.specs.declared.chan.Chan.{Chan}
-use Rattle.uicc_select.specs.Find.{directory_in, found, found_by_id, found_from_master, found_near, found_through, itself}
+use Rattle.uicc_select.specs.Find.{directory_in, found, found_by_id, found_from_master, found_near}
+use Rattle.uicc_select.specs.Find.{found_through, itself}
 use Rattle.uicc_select.specs.declared.naming.Target.{Target}
-use Rattle.uicc_select.specs.declared.naming.Target.TheVariants.{Id, Directory, Parent, Named, FromMaster, FromCurrent}
+use Rattle.uicc_select.specs.declared.naming.Target.TheVariants.{Id, Directory, Parent, Named}
+use Rattle.uicc_select.specs.declared.naming.Target.TheVariants.{FromMaster, FromCurrent}
 
 -- the next identifier of a path names a file in the one before
 pub found_through-next : (rows : List FileRow) (ids : List ℕ) (i : ℕ) (row next : FileRow) → i < length ids → child rows row.head.path (get_or ids i 0) ≡ Some next

@@ -1,5 +1,6 @@
 -- What SELECT and STATUS leave as it is.
-use Rattle.std.proofs.Common.{◌≡◌, ◌≢◌, ℕ, Bool, true, false, cond, List, [], length, refl, sym, ◌∙◌, ap, Option, Some, None}
+use Rattle.std.proofs.Common.{◌≡◌, ◌≢◌, ℕ, Bool, true, false, cond, List, [], length, refl, sym}
+use Rattle.std.proofs.Common.{◌∙◌, ap, Option, Some, None}
 use Rattle.std.specs.Prelude.{◌==◌, ◌&&◌, is_some, option_and_then, unwrap_or, if◌then◌else◌}
 use Rattle.apdu_codec.specs.Answer.{status_alone}
 use Rattle.apdu_codec.specs.Command.{Apdu}
@@ -10,7 +11,8 @@ use Rattle.file_rows.specs.declared.head.Life.{Life}
 use Rattle.file_rows.specs.declared.head.Life.TheVariants.{Active, Deactivated, Terminated}
 use Rattle.file_rows.specs.declared.pin.PinRow.{PinRow}
 use Rattle.file_rows.specs.declared.row.FileRow.{FileRow}
-use Rattle.uicc_channels.proofs.AcceptedLemmas.{IsDoneOrRefused-accepted, IsDoneOrRefused-decided, IsDoneOrRefused-delivered, accepted-answered}
+use Rattle.uicc_channels.proofs.AcceptedLemmas.{IsDoneOrRefused-accepted, IsDoneOrRefused-decided}
+use Rattle.uicc_channels.proofs.AcceptedLemmas.{IsDoneOrRefused-delivered, accepted-answered}
 use Rattle.uicc_channels.proofs.NeedsLemmas.{AllMet, all_met}
 use Rattle.uicc_channels.proofs.RowLemmas.{decided-has}
 use Rattle.uicc_channels.proofs.SessionLemmas.{channel_at-waiting, channel_at-with_channel}
@@ -24,7 +26,9 @@ use Rattle.uicc_channels.specs.Session.{channel_at, open_channel, with_channel}
 use Rattle.uicc_channels.specs.declared.chan.Chan.{Chan}
 use Rattle.uicc_channels.specs.declared.session.Session.{Session}
 use Rattle.uicc_select.specs.Find.{found}
-use Rattle.uicc_select.specs.Select.{answered_if_some, names_isdr, parameters_for, select_row, selected_status, selecting_isdr, selection_of, selection_of_file, standing_at, waiting_if_some}
+use Rattle.uicc_select.specs.Select.{answered_if_some, names_isdr, parameters_for, select_row}
+use Rattle.uicc_select.specs.Select.{selected_status, selecting_isdr, selection_of}
+use Rattle.uicc_select.specs.Select.{selection_of_file, standing_at, waiting_if_some}
 use Rattle.uicc_select.specs.Status.{name_of_application, parameters_of_directory, status_row}
 use Rattle.uicc_select.specs.Target.{target_of}
 use Rattle.uicc_select.specs.declared.naming.Target.{Target}

@@ -1,4 +1,5 @@
-use Rattle.std.proofs.Common.{◌≡◌, ℕ, ◌<◌, Bool, true, false, cond, ◌&&◌, List, [], ◌∷◌, zero, suc, length, set, refl, sym, ap, inl, inr, Option, Some, None}
+use Rattle.std.proofs.Common.{◌≡◌, ℕ, ◌<◌, Bool, true, false, cond, ◌&&◌, List, [], ◌∷◌, zero, suc}
+use Rattle.std.proofs.Common.{length, set, refl, sym, ap, inl, inr, Option, Some, None}
 use Rattle.std.specs.Option.{unwrap_or}
 use Rattle.std.specs.Prelude.{◌==◌}
 use Rattle.std.proofs.lemmas.Bool.{cases_lt}
@@ -16,7 +17,8 @@ use Rattle.uicc_channels.specs.Delivery.{delivered, waiting}
 use Rattle.uicc_channels.specs.declared.chan.Chan.{Chan}
 use Rattle.uicc_channels.specs.declared.session.Session.{Session}
 use Rattle.uicc_select.specs.Find.{found}
-use Rattle.uicc_select.specs.Select.{Selection, names_isdr, select_row, selection_of, selection_of_file}
+use Rattle.uicc_select.specs.Select.{Selection, names_isdr, select_row, selection_of}
+use Rattle.uicc_select.specs.Select.{selection_of_file}
 use Rattle.uicc_select.specs.Status.{name_of_application, parameters_of_directory, status_row}
 use Rattle.uicc_select.specs.Target.{target_of}
 use Rattle.uicc_select.specs.declared.naming.Target.{Target}

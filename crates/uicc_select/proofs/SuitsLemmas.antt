@@ -1,4 +1,6 @@
-use Rattle.std.proofs.Common.{◌≡◌, ◌≢◌, ℕ, Bool, true, false, cond, ◌&&◌, List, [], refl, sym, ◌∙◌, ap, subst, inl, inr, ⊎_elim, Option, Some, None, IfSome, IsSomeAnd, IsTrue}
+use Rattle.std.proofs.Common.{◌≡◌, ◌≢◌, ℕ, Bool, true, false, cond, ◌&&◌, List, [], refl, sym, ◌∙◌}
+use Rattle.std.proofs.Common.{ap, subst, inl, inr, ⊎_elim, Option, Some, None, IfSome, IsSomeAnd}
+use Rattle.std.proofs.Common.{IsTrue}
 use Rattle.std.proofs.lemmas.Bool.{true≢false}
 use Rattle.std.specs.Prelude.{◌==◌}
 use Rattle.std.specs.Option.{unwrap_or}
@@ -8,7 +10,8 @@ use Rattle.file_rows.specs.FileHead.{holds_files, is_application}
 use Rattle.file_rows.specs.Path.{master, parent_of}
 use Rattle.file_rows.specs.declared.content.Content.{Content}
 use Rattle.file_rows.specs.declared.head.Kind.{Kind}
-use Rattle.file_rows.specs.declared.head.Kind.TheVariants.{Master, Directory as DedicatedFile, Application, Transparent, Linear, Cyclic}
+use Rattle.file_rows.specs.declared.head.Kind.TheVariants.{Master, Directory as DedicatedFile}
+use Rattle.file_rows.specs.declared.head.Kind.TheVariants.{Application, Transparent, Linear, Cyclic}
 use Rattle.file_rows.specs.declared.pin.PinRow.{PinRow}
 use Rattle.file_rows.specs.declared.row.FileRow.{FileRow}
 use Rattle.uicc_channels.proofs.AmongLemmas.{AreApart, IsAmong, found_passes}
@@ -24,11 +27,14 @@ use Rattle.uicc_channels.specs.declared.chan.Chan.{Chan}
 use Rattle.uicc_channels.specs.declared.session.Session.{Session}
 use Rattle.uicc_select.proofs.FoundLemmas.{IfSome-at, found_among}
 use Rattle.uicc_select.specs.Find.{found}
-use Rattle.uicc_select.specs.Select.{Selection, application_after, names_isdr, parameters_for, select_row, selection_of, selection_of_file, standing_at, waiting_if_some}
+use Rattle.uicc_select.specs.Select.{Selection, application_after, names_isdr, parameters_for}
+use Rattle.uicc_select.specs.Select.{select_row, selection_of, selection_of_file, standing_at}
+use Rattle.uicc_select.specs.Select.{waiting_if_some}
 use Rattle.uicc_select.specs.Status.{name_of_application, parameters_of_directory, status_row}
 use Rattle.uicc_select.specs.Target.{target_of}
 use Rattle.uicc_select.specs.declared.naming.Target.{Target}
-use Rattle.uicc_select.specs.declared.naming.Target.TheVariants.{Id, Directory, Parent, Named, FromMaster, FromCurrent}
+use Rattle.uicc_select.specs.declared.naming.Target.TheVariants.{Id, Directory, Parent, Named}
+use Rattle.uicc_select.specs.declared.naming.Target.TheVariants.{FromMaster, FromCurrent}
 use Rattle.uicc_tree.specs.Change.{AreRows}
 
 -- what a card may hold are the files of one, or none

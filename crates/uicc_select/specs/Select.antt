@@ -1,10 +1,13 @@
-use Rattle.std.specs.Prelude.{ℕ, Bool, false, ◌==◌, ◌&&◌, ◌||◌, if◌then◌else◌, List, [], Option, Some, None, option_and_then, unwrap_or, is_some}
+use Rattle.std.specs.Prelude.{ℕ, Bool, false, ◌==◌, ◌&&◌, ◌||◌, if◌then◌else◌, List, [], Option}
+use Rattle.std.specs.Prelude.{Some, None, option_and_then, unwrap_or, is_some}
 use Rattle.std.specs.Str.{bytes_eq}
 use Rattle.apdu_codec.specs.Answer.{status_alone}
 use Rattle.apdu_codec.specs.Command.{Apdu}
 use Rattle.apdu_codec.specs.declared.answers.Answer.{Answer}
 use Rattle.apdu_codec.specs.declared.status.Sw.{Sw}
-use Rattle.apdu_codec.specs.declared.status.TheConstants.Sw.{FILE_NOT_FOUND, OK, SELECTED_DEACTIVATED, SELECTED_TERMINATED}
+use Rattle.apdu_codec.specs.declared.status.TheConstants.Sw.{FILE_NOT_FOUND, OK}
+use Rattle.apdu_codec.specs.declared.status.TheConstants.Sw.{SELECTED_DEACTIVATED}
+use Rattle.apdu_codec.specs.declared.status.TheConstants.Sw.{SELECTED_TERMINATED}
 use Rattle.fcp_codec.specs.Writing.{written_fcp}
 use Rattle.file_rows.specs.FileHead.{holds_files}
 use Rattle.file_rows.specs.Path.{master, parent_of}
@@ -25,7 +28,8 @@ use Rattle.uicc_select.specs.Find.{found}
 use Rattle.uicc_select.specs.Target.{is_selection_method, target_of}
 use Rattle.uicc_select.specs.declared.selection.TheConstants.{ISDR_AID}
 use Rattle.uicc_select.specs.declared.naming.Target.{Target}
-use Rattle.uicc_select.specs.declared.naming.Target.TheVariants.{Id, Directory, Parent, Named, FromMaster, FromCurrent}
+use Rattle.uicc_select.specs.declared.naming.Target.TheVariants.{Id, Directory, Parent, Named}
+use Rattle.uicc_select.specs.declared.naming.Target.TheVariants.{FromMaster, FromCurrent}
 
 -- P2 00 and 0C: no answer body; 04: the control parameters of the file
 abbrev pub are_of_select : ℕ → ℕ → Bool

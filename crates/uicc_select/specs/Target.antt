@@ -1,7 +1,9 @@
-use Rattle.std.specs.Prelude.{ℕ, ◌+◌, ◌*◌, ◌%◌, Bool, ◌==◌, ◌&&◌, ◌||◌, if◌then◌else◌, List, [], ◌∷◌, length, Option, Some, None, option_map}
+use Rattle.std.specs.Prelude.{ℕ, ◌+◌, ◌*◌, ◌%◌, Bool, ◌==◌, ◌&&◌, ◌||◌, if◌then◌else◌, List, []}
+use Rattle.std.specs.Prelude.{◌∷◌, length, Option, Some, None, option_map}
 use Rattle.apdu_codec.specs.Class.{is_within}
 use Rattle.uicc_select.specs.declared.naming.Target.{Target}
-use Rattle.uicc_select.specs.declared.naming.Target.TheVariants.{Id, Directory, Parent, Named, FromMaster, FromCurrent}
+use Rattle.uicc_select.specs.declared.naming.Target.TheVariants.{Id, Directory, Parent, Named}
+use Rattle.uicc_select.specs.declared.naming.Target.TheVariants.{FromMaster, FromCurrent}
 
 -- ETSI TS 102 221, SELECT: P1 is one of the selection methods
 abbrev pub is_selection_method : ℕ → Bool

@@ -3,7 +3,8 @@ ghost use Rattle.std.specs.Prelude.{◌≡◌, ◌≤◌, length, Some};
 ghost use Rattle.file_rows.specs.Content.{file_at};
 ghost use Rattle.file_rows.specs.Find.{child};
 ghost use Rattle.uicc_tree.specs.Files.{Gives, IsLive, file_of, rows_of};
-ghost use Rattle.uicc_select.specs.Find.{directory_in, found, found_by_id, found_from_master, found_near, found_through, itself};
+ghost use Rattle.uicc_select.specs.Find.{directory_in, found, found_by_id, found_from_master};
+ghost use Rattle.uicc_select.specs.Find.{found_near, found_through, itself};
 
 use crate::naming::Target;
 use file_rows::{CURRENT_APPLICATION_ID, MASTER_FILE_ID, Path, own_id, parent_of};

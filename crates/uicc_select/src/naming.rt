@@ -1,5 +1,6 @@
 ghost use Rattle.std.specs.Prelude.{◌≡◌, ◌+◌, ◌*◌, ◌%◌, ◌≤◌, ◌==◌, length};
-ghost use Rattle.uicc_select.specs.Target.{id_in, ids_in, is_selection_method, name_in, path_in, target_of};
+ghost use Rattle.uicc_select.specs.Target.{id_in, ids_in, is_selection_method, name_in, path_in};
+ghost use Rattle.uicc_select.specs.Target.{target_of};
 
 use file_rows::{Name, Path};
 

@@ -1,4 +1,5 @@
-ghost use Rattle.std.specs.Prelude.{◌≡◌, ◌≤◌, ℕ, length, Some, None, MatchResult, IfSome, option_and_then};
+ghost use Rattle.std.specs.Prelude.{◌≡◌, ◌≤◌, ℕ, length, Some, None, MatchResult, IfSome};
+ghost use Rattle.std.specs.Prelude.{option_and_then};
 ghost use Rattle.apdu_codec.specs.Command.{apdu_of};
 ghost use Rattle.uicc_channels.specs.CommandOutcome.{outcome_of};
 ghost use Rattle.uicc_channels.specs.CommandRow.{Follows, decided};
@@ -8,7 +9,9 @@ ghost use Rattle.uicc_channels.specs.SessionChange.{session_after};
 ghost use Rattle.uicc_channels.specs.declared.session.Session.{Session};
 ghost use Rattle.uicc_tree.specs.Change.{AreRows};
 ghost use Rattle.uicc_tree.specs.Files.{IsLive, file_of, rows_of};
-ghost use Rattle.uicc_select.specs.Select.{answered_if_some, application_after, are_of_select, names_isdr, parameters_for, select_row, selected_status, selecting, selecting_isdr, standing_at, waiting_if_some};
+ghost use Rattle.uicc_select.specs.Select.{answered_if_some, application_after, are_of_select};
+ghost use Rattle.uicc_select.specs.Select.{names_isdr, parameters_for, select_row, selected_status};
+ghost use Rattle.uicc_select.specs.Select.{selecting, selecting_isdr, standing_at, waiting_if_some};
 
 use crate::find::find;
 use crate::naming::{Target, is_selection_method, target_of};

@@ -6,7 +6,8 @@ ghost use Rattle.uicc_channels.specs.Session.{IsOpen, Suits};
 ghost use Rattle.uicc_channels.specs.SessionChange.{session_after};
 ghost use Rattle.uicc_tree.specs.Change.{AreRows};
 ghost use Rattle.uicc_tree.specs.Files.{rows_of};
-ghost use Rattle.uicc_select.specs.Status.{are_of_status, name_object, name_of_application, parameters_of_directory, status_row};
+ghost use Rattle.uicc_select.specs.Status.{are_of_status, name_object, name_of_application};
+ghost use Rattle.uicc_select.specs.Status.{parameters_of_directory, status_row};
 
 use crate::parameters::{Parameters, parameters_of};
 use apdu_codec::{AnswerBody, Command, Sw, class_fits};

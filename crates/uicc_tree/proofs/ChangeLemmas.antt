@@ -1,4 +1,5 @@
-use Rattle.std.proofs.Common.{◌≡◌, ◌≢◌, ℕ, Bool, true, false, cond, List, ◌∷◌, [], map, Contains, refl, sym, ◌∙◌, ap, subst, Option, Some, None, arith, ⊎_elim}
+use Rattle.std.proofs.Common.{◌≡◌, ◌≢◌, ℕ, Bool, true, false, cond, List, ◌∷◌, [], map, Contains}
+use Rattle.std.proofs.Common.{refl, sym, ◌∙◌, ap, subst, Option, Some, None, arith, ⊎_elim}
 use Rattle.std.proofs.lemmas.Bool.{cases_eq}
 use Rattle.std.proofs.lemmas.List.{get_or-set_other, get_or-set_same, length-map, length-set}
 use Rattle.std.proofs.lemmas.Slice.Eq.{bytes_eq-Decides}
@@ -8,7 +9,8 @@ use Rattle.file_rows.specs.Path.{is_in, same_path}
 use Rattle.file_rows.specs.declared.row.FileRow.{FileRow}
 use Rattle.file_rows.proofs.ListLemmas.{contains_first, contains_later}
 use Rattle.file_rows.proofs.ChangeLemmas.{same_path-other}
-use Rattle.uicc_tree.specs.Arena.{ChangesCell, IsArena, cell_of, IsTree, children_of, files_of, mark_at, with_cell}
+use Rattle.uicc_tree.specs.Arena.{ChangesCell, IsArena, cell_of, IsTree, children_of, files_of}
+use Rattle.uicc_tree.specs.Arena.{mark_at, with_cell}
 use Rattle.uicc_tree.specs.Change.{ChangesFile}
 use Rattle.uicc_tree.specs.Files.{Files, IsLive, file_of, no_file, path_of, rows_of}
 use Rattle.uicc_tree.specs.declared.arena.Arena.{Arena}

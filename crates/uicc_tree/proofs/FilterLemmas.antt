@@ -1,4 +1,5 @@
-use Rattle.std.proofs.Common.{◌≡◌, Bool, true, false, cond, ◌&&◌, List, ◌∷◌, [], ◌++◌, map, filter, Contains, refl, sym, ◌∙◌, ap, subst}
+use Rattle.std.proofs.Common.{◌≡◌, Bool, true, false, cond, ◌&&◌, List, ◌∷◌, [], ◌++◌, map, filter}
+use Rattle.std.proofs.Common.{Contains, refl, sym, ◌∙◌, ap, subst}
 use Rattle.std.specs.List.Retain.{RetainsInTurn}
 use Rattle.file_rows.proofs.ListLemmas.{contains_first, contains_later}
 

@@ -1,5 +1,6 @@
 -- Applications stand in the MF, so a search among its children finds each.
-use Rattle.std.proofs.Common.{◌≡◌, ℕ, Bool, true, ◌&&◌, List, [], ◌∷◌, map, find, nat_eq, Contains, refl, sym, ◌∙◌, ap, subst, ⊎_elim}
+use Rattle.std.proofs.Common.{◌≡◌, ℕ, Bool, true, ◌&&◌, List, [], ◌∷◌, map, find, nat_eq, Contains}
+use Rattle.std.proofs.Common.{refl, sym, ◌∙◌, ap, subst, ⊎_elim}
 use Rattle.std.proofs.lemmas.Bool.{true≢false}
 use Rattle.std.specs.List.{AllByRecursion, starts_with}
 use Rattle.std.specs.Str.{bytes_eq}
@@ -9,7 +10,8 @@ use Rattle.file_rows.specs.Find.{application_named, application_of_name}
 use Rattle.file_rows.specs.Path.{IsIn, is_in, master}
 use Rattle.file_rows.specs.declared.head.FileHead.{FileHead}
 use Rattle.file_rows.specs.declared.head.Kind.{Kind}
-use Rattle.file_rows.specs.declared.head.Kind.TheVariants.{Master, Directory, Application, Transparent, Linear, Cyclic}
+use Rattle.file_rows.specs.declared.head.Kind.TheVariants.{Master, Directory, Application}
+use Rattle.file_rows.specs.declared.head.Kind.TheVariants.{Transparent, Linear, Cyclic}
 use Rattle.file_rows.specs.declared.row.FileRow.{FileRow}
 use Rattle.file_rows.proofs.ListLemmas.{contains_cases}
 use Rattle.file_rows.proofs.PathLemmas.{both_hold, is_in-is}

@@ -1,9 +1,13 @@
-use Rattle.std.proofs.Common.{◌≡◌, ◌≢◌, ◌⊎◌, ℕ, ◌<◌, List, ◌∷◌, [], ◌++◌, map, length, Contains, get_or, set, Bool, true, false, nat_lt, ◌^◌, sym, ◌∙◌, ap, subst, Option, Some, None, arith, ⊎_elim}
+use Rattle.std.proofs.Common.{◌≡◌, ◌≢◌, ◌⊎◌, ℕ, ◌<◌, List, ◌∷◌, [], ◌++◌, map, length, Contains}
+use Rattle.std.proofs.Common.{get_or, set, Bool, true, false, nat_lt, ◌^◌, sym, ◌∙◌, ap, subst}
+use Rattle.std.proofs.Common.{Option, Some, None, arith, ⊎_elim}
 use Rattle.std.proofs.lemmas.List.{get_or-set_same, get_or-set_other, length-map, map-append}
 use Rattle.std.proofs.lemmas.List.Elements.{Contains-push_cases}
 use Rattle.std.proofs.lemmas.Option.{none-some, same_Some, slice_get_within}
 use Rattle.file_rows.specs.declared.row.FileRow.{FileRow}
-use Rattle.uicc_tree.specs.Arena.{AddsNode, CanStand, IsArena, IsTree, Stores, cell_of, child_room_of, children_at, children_of, files_of, mark_at, marks_of}
+use Rattle.uicc_tree.specs.Arena.{AddsNode, CanStand, IsArena, IsTree, Stores, cell_of}
+use Rattle.uicc_tree.specs.Arena.{child_room_of, children_at, children_of, files_of, mark_at}
+use Rattle.uicc_tree.specs.Arena.{marks_of}
 use Rattle.uicc_tree.specs.Files.{Files, IsLive, file_of, no_file, rows_of}
 use Rattle.uicc_tree.specs.declared.arena.Arena.{Arena}
 use Rattle.uicc_tree.specs.declared.arena.Slot.{Slot}

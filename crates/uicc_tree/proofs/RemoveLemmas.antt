@@ -1,4 +1,6 @@
-use Rattle.std.proofs.Common.{◌≡◌, ◌≢◌, ◌⊎◌, ℕ, ◌<◌, Bool, true, false, not, cond, ◌==◌, ◌&&◌, List, ◌∷◌, [], ◌++◌, map, filter, length, drop, Contains, get_or, refl, sym, ◌∙◌, ap, subst, Some, inl, inr, arith, ⊎_elim}
+use Rattle.std.proofs.Common.{◌≡◌, ◌≢◌, ◌⊎◌, ℕ, ◌<◌, Bool, true, false, not, cond, ◌==◌, ◌&&◌, List}
+use Rattle.std.proofs.Common.{◌∷◌, [], ◌++◌, map, filter, length, drop, Contains, get_or, refl, sym}
+use Rattle.std.proofs.Common.{◌∙◌, ap, subst, Some, inl, inr, arith, ⊎_elim}
 use Rattle.std.specs.Prelude.{slice_get}
 use Rattle.std.proofs.lemmas.Bool.{true≢false}
 use Rattle.std.proofs.lemmas.Bool.Decides.{Decides-eqb}
@@ -7,12 +9,14 @@ use Rattle.std.proofs.lemmas.List.Elements.{Contains-get_or}
 use Rattle.std.proofs.lemmas.Option.{none-some, same_Some}
 use Rattle.file_rows.specs.Path.{is_in, master, stands_below}
 use Rattle.file_rows.specs.declared.row.FileRow.{FileRow}
-use Rattle.uicc_tree.specs.Arena.{ArePruned, IsArena, IsPruned, cell_of, children_at, children_in, children_of, files_of, mark_at, marks_of}
+use Rattle.uicc_tree.specs.Arena.{ArePruned, IsArena, IsPruned, cell_of, children_at, children_in}
+use Rattle.uicc_tree.specs.Arena.{children_of, files_of, mark_at, marks_of}
 use Rattle.uicc_tree.specs.Files.{IsLive, file_of, no_file, path_of, rows_of}
 use Rattle.uicc_tree.specs.declared.arena.Arena.{Arena}
 use Rattle.uicc_tree.specs.declared.arena.Slot.{Slot}
 use Rattle.file_rows.proofs.ListLemmas.{contains-filter, contains_first, filter-contains}
-use Rattle.file_rows.proofs.PathLemmas.{below_is, below_more, both_hold, is_below, is_false, is_in-is}
+use Rattle.file_rows.proofs.PathLemmas.{below_is, below_more, both_hold, is_below, is_false}
+use Rattle.file_rows.proofs.PathLemmas.{is_in-is}
 use Rattle.uicc_tree.proofs.FilterLemmas.{filter-twice, map-filter}
 use Rattle.uicc_tree.proofs.SlotLemmas.{map_get_some, some_within}
 use Rattle.uicc_tree.proofs.TreeLemmas.{in_slots}

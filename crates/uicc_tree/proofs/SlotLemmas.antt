@@ -1,7 +1,10 @@
-use Rattle.std.proofs.Common.{◌≡◌, ◌≢◌, ℕ, zero, suc, ◌<◌, List, ◌∷◌, [], ◌++◌, map, length, Option, Some, Result, Ok, Err, OnOk, Contains, get_or, set, refl, sym, ◌∙◌, ap, arith}
+use Rattle.std.proofs.Common.{◌≡◌, ◌≢◌, ℕ, zero, suc, ◌<◌, List, ◌∷◌, [], ◌++◌, map, length, Option}
+use Rattle.std.proofs.Common.{Some, Result, Ok, Err, OnOk, Contains, get_or, set, refl, sym, ◌∙◌}
+use Rattle.std.proofs.Common.{ap, arith}
 use Rattle.std.specs.Prelude.{slice_get, unwrap_or}
 use Rattle.std.specs.Option.{option_map}
-use Rattle.std.proofs.lemmas.Option.{get_or_from_slice_get, slice_get-map, slice_get_within, unwrap_or-slice_get}
+use Rattle.std.proofs.lemmas.Option.{get_or_from_slice_get, slice_get-map, slice_get_within}
+use Rattle.std.proofs.lemmas.Option.{unwrap_or-slice_get}
 use Rattle.file_rows.proofs.ListLemmas.{contains_first, contains_later}
 use Rattle.std.proofs.lemmas.List.{get_or-set_same, length-map, map-set}
 

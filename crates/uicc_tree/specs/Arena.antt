@@ -1,4 +1,7 @@
-use Rattle.std.specs.Prelude.{ℕ, Bool, true, false, not, ◌==◌, filter, nat_lt, if◌then◌else◌, ◌+◌, ◌≡◌, ◌≢◌, ◌⊎◌, ◌<◌, ◌^◌, List, ◌∷◌, [], ◌++◌, map, length, vec_capacity, IsTrue, All, slice_index_or, slice_get, slice_set, Option, Some, None}
+use Rattle.std.specs.Prelude.{ℕ, Bool, true, false, not, ◌==◌, filter, nat_lt, if◌then◌else◌, ◌+◌}
+use Rattle.std.specs.Prelude.{◌≡◌, ◌≢◌, ◌⊎◌, ◌<◌, ◌^◌, List, ◌∷◌, [], ◌++◌, map, length}
+use Rattle.std.specs.Prelude.{vec_capacity, IsTrue, All, slice_index_or, slice_get, slice_set}
+use Rattle.std.specs.Prelude.{Option, Some, None}
 use Rattle.file_rows.specs.Path.{IsIn, is_in, master, stands_below}
 use Rattle.file_rows.specs.declared.row.FileRow.{FileRow}
 use Rattle.uicc_tree.specs.Files.{Files, IsLive, file_of, path_of}

@@ -1,10 +1,13 @@
-use Rattle.std.specs.Prelude.{ℕ, false, ◌≡◌, ◌⊎◌, ◌≤◌, List, [], length, replicate, slice_index, Option, ⊤}
+use Rattle.std.specs.Prelude.{ℕ, false, ◌≡◌, ◌⊎◌, ◌≤◌, List, [], length, replicate, slice_index}
+use Rattle.std.specs.Prelude.{Option, ⊤}
 use Rattle.file_rows.specs.Change.{Fits, changed, with_file}
 use Rattle.file_rows.specs.Content.{AreFiles, use_of}
 use Rattle.file_rows.specs.FileHead.{IsFile}
 use Rattle.file_rows.specs.Path.{stands_below}
 use Rattle.file_rows.specs.declared.change.Change.{Change}
-use Rattle.file_rows.specs.declared.change.Change.TheVariants.{WriteRange, WriteRecord, PinSet, FileAdd, FileGone, FileState, FileSize}
+use Rattle.file_rows.specs.declared.change.Change.TheVariants.{WriteRange, WriteRecord, PinSet}
+use Rattle.file_rows.specs.declared.change.Change.TheVariants.{FileAdd, FileGone, FileState}
+use Rattle.file_rows.specs.declared.change.Change.TheVariants.{FileSize}
 use Rattle.file_rows.specs.declared.content.TheConstants.{QUOTA}
 use Rattle.file_rows.specs.declared.pin.PinRow.{PinRow}
 use Rattle.file_rows.specs.declared.row.FileRow.{FileRow}

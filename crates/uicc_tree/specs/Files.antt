@@ -1,4 +1,5 @@
-use Rattle.std.specs.Prelude.{ℕ, ◌≡◌, ◌≢◌, List, [], map, Option, Some, None, Contains, slice_index_or}
+use Rattle.std.specs.Prelude.{ℕ, ◌≡◌, ◌≢◌, List, [], map, Option, Some, None, Contains}
+use Rattle.std.specs.Prelude.{slice_index_or}
 use Rattle.file_rows.specs.Content.{file_at}
 use Rattle.file_rows.specs.Path.{IsIn}
 use Rattle.file_rows.specs.declared.head.FileHead.{FileHead}

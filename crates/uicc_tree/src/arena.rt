@@ -1,5 +1,10 @@
-ghost use Rattle.std.specs.Prelude.{◌≡◌, ◌≢◌, ℕ, ◌<◌, List, [], ◌∷◌, ◌++◌, length, Contains, IfSome, IfNone, IsTrue, OnOk, ◌↔◌, ◌&&◌, ◌+◌, ◌^◌, ◌⊎◌, false, nat_eq, Some, None, vec_capacity, slice_get, slice_set, slice_index_or};
-ghost use Rattle.uicc_tree.specs.Arena.{files_of, children_of, children_at, child_room_of, marks_of, CanStand, HasDirectory, HasNode, HasPlace, IsArena, IsFree, StandsIn, Stores};
+ghost use Rattle.std.specs.Prelude.{◌≡◌, ◌≢◌, ℕ, ◌<◌, List, [], ◌∷◌, ◌++◌, length, Contains};
+ghost use Rattle.std.specs.Prelude.{IfSome, IfNone, IsTrue, OnOk, ◌↔◌, ◌&&◌, ◌+◌, ◌^◌, ◌⊎◌, false};
+ghost use Rattle.std.specs.Prelude.{nat_eq, Some, None, vec_capacity, slice_get, slice_set};
+ghost use Rattle.std.specs.Prelude.{slice_index_or};
+ghost use Rattle.uicc_tree.specs.Arena.{files_of, children_of, children_at, child_room_of};
+ghost use Rattle.uicc_tree.specs.Arena.{marks_of, CanStand, HasDirectory, HasNode, HasPlace};
+ghost use Rattle.uicc_tree.specs.Arena.{IsArena, IsFree, StandsIn, Stores};
 ghost use Rattle.std.specs.List.{starts_with};
 ghost use Rattle.std.specs.Str.{bytes_eq};
 ghost use Rattle.file_rows.specs.Content.{file_at};

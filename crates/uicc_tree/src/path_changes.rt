@@ -1,6 +1,9 @@
 // Changes of one file, by its path.
-ghost use Rattle.std.specs.Prelude.{◌≡◌, ℕ, ◌+◌, ◌≤◌, ◌<◌, length, ◌++◌, ◌∷◌, [], false, not, filter, replicate, slice_index, Option, None, IsSomeAnd, IsSome};
-ghost use Rattle.file_rows.specs.Change.{with_body, with_life, with_record, with_size, new_file, written, IsRecordFor};
+ghost use Rattle.std.specs.Prelude.{◌≡◌, ℕ, ◌+◌, ◌≤◌, ◌<◌, length, ◌++◌, ◌∷◌, [], false, not};
+ghost use Rattle.std.specs.Prelude.{filter, replicate, slice_index, Option, None, IsSomeAnd};
+ghost use Rattle.std.specs.Prelude.{IsSome};
+ghost use Rattle.file_rows.specs.Change.{with_body, with_life, with_record, with_size, new_file};
+ghost use Rattle.file_rows.specs.Change.{written, IsRecordFor};
 ghost use Rattle.file_rows.specs.Content.{file_at};
 ghost use Rattle.file_rows.specs.Path.{stands_below};
 ghost use Rattle.uicc_tree.specs.Arena.{body_room_of, files_of, HasPlace, IsArena, StandsIn};

@@ -1,9 +1,11 @@
 // A file that goes, with all files below it.
-ghost use Rattle.std.specs.Prelude.{◌≡◌, ◌≢◌, ℕ, ◌==◌, ◌<◌, ◌≤◌, ◌^◌, true, false, not, filter, length, map, slice_get, slice_index_or};
+ghost use Rattle.std.specs.Prelude.{◌≡◌, ◌≢◌, ℕ, ◌==◌, ◌<◌, ◌≤◌, ◌^◌, true, false, not, filter};
+ghost use Rattle.std.specs.Prelude.{length, map, slice_get, slice_index_or};
 ghost use Rattle.std.specs.List.{starts_with};
 ghost use Rattle.file_rows.specs.Content.{use_of};
 ghost use Rattle.file_rows.specs.Path.{stands_below};
-ghost use Rattle.uicc_tree.specs.Arena.{files_of, mark_at, use_outside, ArePruned, IsArena, IsPruned};
+ghost use Rattle.uicc_tree.specs.Arena.{files_of, mark_at, use_outside, ArePruned, IsArena};
+ghost use Rattle.uicc_tree.specs.Arena.{IsPruned};
 ghost use Rattle.uicc_tree.specs.Files.{file_of, path_of, rows_of, IsLive};
 
 use crate::arena::{Arena, Slot};

@@ -1,7 +1,8 @@
 ghost use Rattle.std.specs.Prelude.{◌≡◌, ◌≤◌, ℕ, [], List, Option, IsSome, OnOk, IfOk, ◌⊎◌};
 ghost use Rattle.file_rows.specs.Change.{with_file, with_size};
 ghost use Rattle.file_rows.specs.Content.{AreFiles, file_at, use_of};
-ghost use Rattle.file_rows.specs.Find.{application_named, child, child_with_sfi, file_of_path, is_id_used, is_name_used};
+ghost use Rattle.file_rows.specs.Find.{application_named, child, child_with_sfi, file_of_path};
+ghost use Rattle.file_rows.specs.Find.{is_id_used, is_name_used};
 ghost use Rattle.file_rows.specs.Path.{parent_of};
 ghost use Rattle.uicc_tree.specs.Arena.{HasDirectory, StandsIn};
 ghost use Rattle.uicc_tree.specs.Change.{FitsFiles, HasRoom, Outlives, rows_after};

@@ -1,5 +1,6 @@
 // The bodies of the files that stay, moved together.
-ghost use Rattle.std.specs.Prelude.{◌≡◌, ◌≤◌, ◌<◌, ◌^◌, ◌+◌, if◌then◌else◌, not, filter, length, vec_capacity};
+ghost use Rattle.std.specs.Prelude.{◌≡◌, ◌≤◌, ◌<◌, ◌^◌, ◌+◌, if◌then◌else◌, not, filter, length};
+ghost use Rattle.std.specs.Prelude.{vec_capacity};
 ghost use Rattle.std.specs.List.{copy_within, flat_map};
 ghost use Rattle.file_rows.specs.Path.{stands_below};
 ghost use Rattle.record_codec.specs.Pooled.{pooled_rows, pooled_size};

@@ -1,5 +1,6 @@
 // A body changed where it stands among the others.
-ghost use Rattle.std.specs.Prelude.{◌≡◌, ◌≤◌, ◌+◌, ◌-◌, ◌++◌, length, take, drop, replicate, vec_capacity};
+ghost use Rattle.std.specs.Prelude.{◌≡◌, ◌≤◌, ◌+◌, ◌-◌, ◌++◌, length, take, drop, replicate};
+ghost use Rattle.std.specs.Prelude.{vec_capacity};
 ghost use Rattle.file_rows.specs.Change.{resized};
 ghost use Rattle.card_journal.specs.Pool.{CanWrite, body_after};
 

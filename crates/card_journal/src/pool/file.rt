@@ -1,5 +1,6 @@
 // A file changed where it stands.
-ghost use Rattle.std.specs.Prelude.{◌≡◌, ◌≢◌, ◌<◌, ◌≤◌, ◌+◌, length, take, IsSomeAnd, slice_get, slice_set, vec_capacity};
+ghost use Rattle.std.specs.Prelude.{◌≡◌, ◌≢◌, ◌<◌, ◌≤◌, ◌+◌, length, take, IsSomeAnd, slice_get};
+ghost use Rattle.std.specs.Prelude.{slice_set, vec_capacity};
 ghost use Rattle.plain_lists.specs.EachTwo.{EachTwo};
 ghost use Rattle.file_rows.specs.Change.{file_after, with_body, with_file, with_size};
 ghost use Rattle.file_rows.specs.Content.{file_at};
@@ -78,7 +79,8 @@ fn change_file(change: &Change, place: Place, heads: &mut [FileHead], bodies: &m
         (λ head. HasSizeRoom change.now (length bodies.old.items) (vec_capacity bodies.old) head) }
     ensures rows { IsSomeAnd (slice_get (pooled_rows heads.old bodies.old.items) place.index)
         (λ row. pooled_rows heads.new bodies.new.items
-        ≡ slice_set (pooled_rows heads.old bodies.old.items) place.index (file_after change.now row)) }
+        ≡ slice_set (pooled_rows heads.old bodies.old.items) place.index
+        (file_after change.now row)) }
     ensures full { pooled_size heads.new ≡ length bodies.new.items }
     ensures room { vec_capacity bodies.old ≤ vec_capacity bodies.new }
 {

@@ -1,9 +1,11 @@
 // Whether a change fits a content in a pool, decided from what it names.
-ghost use Rattle.std.specs.Prelude.{◌≡◌, ◌≤◌, ◌+◌, ◌*◌, ◌^◌, ◌<◌, ◌↔◌, ◌⊎◌, Some, None, Any, IfNone, IfSome, IsSome, IsTrue, length};
+ghost use Rattle.std.specs.Prelude.{◌≡◌, ◌≤◌, ◌+◌, ◌*◌, ◌^◌, ◌<◌, ◌↔◌, ◌⊎◌, Some, None, Any};
+ghost use Rattle.std.specs.Prelude.{IfNone, IfSome, IsSome, IsTrue, length};
 ghost use Rattle.std.specs.List.{AllByRecursion};
 ghost use Rattle.file_rows.specs.Apart.{AreFilesApart};
 ghost use Rattle.file_rows.specs.Change.{Fits, KeepsPin};
-ghost use Rattle.file_rows.specs.Conditions.{IsInsideBody, IsNewFile, IsPinOf, IsRecordOf, IsSizeOf};
+ghost use Rattle.file_rows.specs.Conditions.{IsInsideBody, IsNewFile, IsPinOf, IsRecordOf};
+ghost use Rattle.file_rows.specs.Conditions.{IsSizeOf};
 ghost use Rattle.file_rows.specs.Content.{IsValid, file_at, use_of};
 ghost use Rattle.file_rows.specs.FileHead.{HasRecord, Holds, IsFile};
 ghost use Rattle.file_rows.specs.declared.head.Kind.TheVariants.{Cyclic};

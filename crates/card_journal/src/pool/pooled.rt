@@ -1,4 +1,5 @@
-ghost use Rattle.std.specs.Prelude.{◌≡◌, ◌≢◌, ◌≤◌, ◌+◌, ◌∷◌, ◌++◌, [], not, filter, length, take, drop, IfOk, IsSomeAnd, vec_capacity};
+ghost use Rattle.std.specs.Prelude.{◌≡◌, ◌≢◌, ◌≤◌, ◌+◌, ◌∷◌, ◌++◌, [], not, filter, length, take};
+ghost use Rattle.std.specs.Prelude.{drop, IfOk, IsSomeAnd, vec_capacity};
 ghost use Rattle.std.specs.List.{AllByRecursion, flat_map};
 ghost use Rattle.plain_lists.specs.EachTwo.{EachTwo};
 ghost use Rattle.file_rows.specs.Change.{Fits, changed, file_after, new_file, with_file};

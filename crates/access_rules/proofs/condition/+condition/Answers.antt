@@ -4,7 +4,10 @@ use Rattle.std.proofs.lemmas.Result.{err_from_is_err_and}
 use Rattle.ber_tlv.specs.Walk.{object_of}
 use Rattle.access_rules.specs.Condition.{all_hold, one_holds}
 use Rattle.access_rules.specs.KeySet.{has}
-use Rattle.access_rules.proofs.Deciding.{all_ended, always, and_together, behind_shorter, by_all, by_key, by_none, by_one, fault_is, handed, listed_broken, listed_malformed, never, none_answered, one_ended, or_together, so_far, too_deep_at, within}
+use Rattle.access_rules.proofs.Deciding.{all_ended, always, and_together, behind_shorter, by_all}
+use Rattle.access_rules.proofs.Deciding.{by_key, by_none, by_one, fault_is, handed, listed_broken}
+use Rattle.access_rules.proofs.Deciding.{listed_malformed, never, none_answered, one_ended}
+use Rattle.access_rules.proofs.Deciding.{or_together, so_far, too_deep_at, within}
 use Rattle.access_rules.proofs.Keys.{found, gave_up, is_empty, not_empty, refused}
 use Rattle.access_rules.proofs.condition.+condition.Goals as goal
 

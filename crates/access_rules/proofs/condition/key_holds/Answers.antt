@@ -2,9 +2,13 @@ use Rattle.std.proofs.Common.{ap, inl, inr, sym, ◌∙◌, Some, option_map}
 use Rattle.std.proofs.lemmas.Result.{err_from_is_err_and}
 use Rattle.access_rules.specs.KeySet.{has}
 use Rattle.access_rules.proofs.Deciding.{fault_is, value_is}
-use Rattle.access_rules.proofs.Keys.{found, gave_up, is_empty, no_qualifier, no_reference, no_usage, not_empty, other_qualifier, other_tags, refused, the_key, too_many}
+use Rattle.access_rules.proofs.Keys.{found, gave_up, is_empty, no_qualifier, no_reference, no_usage}
+use Rattle.access_rules.proofs.Keys.{not_empty, other_qualifier, other_tags, refused, the_key}
+use Rattle.access_rules.proofs.Keys.{too_many}
 use Rattle.access_rules.proofs.condition.key_holds.Goals as goal
-use Rattle.access_rules.proofs.condition.key_holds.Goals.{then-reference-ne131-via-then-reference-ne131, then-reference-ne131-via-else-reference-ne131+then-usage-ne149, then-reference-ne131-via-else-reference-ne131+else-usage-ne149+then-not-is_empty}
+use Rattle.access_rules.proofs.condition.key_holds.Goals.{then-reference-ne131-via-then-reference-ne131}
+use Rattle.access_rules.proofs.condition.key_holds.Goals.{then-reference-ne131-via-else-reference-ne131+then-usage-ne149}
+use Rattle.access_rules.proofs.condition.key_holds.Goals.{then-reference-ne131-via-else-reference-ne131+else-usage-ne149+then-not-is_empty}
 
 pub returns-in_err-reference : goal.returns-in_err-reference
 returns-in_err-reference c =

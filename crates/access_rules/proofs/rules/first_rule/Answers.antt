@@ -6,7 +6,8 @@ use Rattle.access_rules.specs.KeySet.{has}
 use Rattle.access_rules.specs.Reading.{modes_of}
 use Rattle.access_rules.proofs.Deciding.{fault_is, none_answered, value_is}
 use Rattle.access_rules.proofs.Keys.{failed}
-use Rattle.access_rules.proofs.Passing.{had, no_condition, no_condition_object, no_modes, no_modes_object, none_covered, the_rule, then_some_is}
+use Rattle.access_rules.proofs.Passing.{had, no_condition, no_condition_object, no_modes}
+use Rattle.access_rules.proofs.Passing.{no_modes_object, none_covered, the_rule, then_some_is}
 use Rattle.access_rules.proofs.rules.first_rule.Goals as goal
 
 pub returns-in_err-modes : goal.returns-in_err-modes

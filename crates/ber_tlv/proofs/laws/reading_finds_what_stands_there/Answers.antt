@@ -1,5 +1,6 @@
 use Rattle.std.proofs.Common.{[]}
-use Rattle.ber_tlv.proofs.ObjectLemmas.{IsThere, object_read, object_there, objects_fill, objects_filled, of_some}
+use Rattle.ber_tlv.proofs.ObjectLemmas.{IsThere, object_read, object_there, objects_fill}
+use Rattle.ber_tlv.proofs.ObjectLemmas.{objects_filled, of_some}
 use Rattle.ber_tlv.specs.Objects.{object_at, objects_of}
 use Rattle.ber_tlv.specs.Walk.{LeadWith}
 use Rattle.ber_tlv.proofs.laws.reading_finds_what_stands_there.Goals as goal

@@ -1,6 +1,7 @@
 use Rattle.std.proofs.Common.{◌≡◌, ℕ, Option, Some, None, IfNone, length, refl, arith, rules}
 use Rattle.card_journal.proofs.BankLemmas.{reads_none, reads_then}
-use Rattle.card_journal.proofs.OpenLemmas.{all_blank, none_blank, only_reads, piece_blank, piece_used}
+use Rattle.card_journal.proofs.OpenLemmas.{all_blank, none_blank, only_reads, piece_blank}
+use Rattle.card_journal.proofs.OpenLemmas.{piece_used}
 use Rattle.card_journal.proofs.blank.first_used.Goals as goal
 
 -- what holds where there is none

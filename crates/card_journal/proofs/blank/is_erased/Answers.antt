@@ -1,4 +1,5 @@
-use Rattle.std.proofs.Common.{◌≡◌, ◌↔◌, ℕ, ◌-◌, Bool, true, false, not, IsTrue, Option, Some, None, is_none, is_some, IfSome, refl, subst, sym}
+use Rattle.std.proofs.Common.{◌≡◌, ◌↔◌, ℕ, ◌-◌, Bool, true, false, not, IsTrue, Option, Some, None}
+use Rattle.std.proofs.Common.{is_none, is_some, IfSome, refl, subst, sym}
 use Rattle.flash_pages.specs.Bytes.{IsErased}
 use Rattle.card_journal.proofs.OpenLemmas.{erased_where}
 use Rattle.card_journal.proofs.blank.is_erased.Goals as goal

@@ -1,5 +1,8 @@
-use Rattle.std.proofs.Common.{◌≡◌, ℕ, suc, ◌+◌, ◌*◌, ◌≤◌, List, length, Ok, IfSome, arith, ap, subst, sym}
-use Rattle.card_journal.proofs.CopyRowLemmas.{CopiedUpTo, copied_erased, copied_more, copy_short, copy_sizes, length-put_each, none_copied, whole_copied}
+use Rattle.std.proofs.Common.{◌≡◌, ℕ, suc, ◌+◌, ◌*◌, ◌≤◌, List, length, Ok, IfSome, arith, ap}
+use Rattle.std.proofs.Common.{subst, sym}
+use Rattle.card_journal.proofs.CopyRowLemmas.{CopiedUpTo, copied_erased, copied_more, copy_short}
+use Rattle.card_journal.proofs.CopyRowLemmas.{copy_sizes, length-put_each, none_copied}
+use Rattle.card_journal.proofs.CopyRowLemmas.{whole_copied}
 use Rattle.card_journal.specs.CopyBody.{copy_coding}
 use Rattle.card_journal.specs.Image.{bank_of}
 use Rattle.flash_pages.specs.Append.{AppendsRow}

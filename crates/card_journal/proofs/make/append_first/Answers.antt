@@ -7,7 +7,8 @@ use Rattle.flash_pages.proofs.Touched.{at_some, flash_size, from_each}
 use Rattle.record_codec.proofs.LengthLemmas.{short_where}
 use Rattle.record_codec.proofs.SizeLemmas.{sizes_of}
 use Rattle.record_codec.specs.Spelling.{spelling}
-use Rattle.card_journal.proofs.MakeLemmas.{begun_fits, ends_at, first_blank, first_ends, first_images, place_at}
+use Rattle.card_journal.proofs.MakeLemmas.{begun_fits, ends_at, first_blank, first_ends}
+use Rattle.card_journal.proofs.MakeLemmas.{first_images, place_at}
 use Rattle.card_journal.proofs.make.append_first.Goals as goal
 
 pub new-body-requires : goal.new-body-requires

@@ -2,7 +2,8 @@ use Rattle.std.proofs.Common.{refl, subst, rules, arith}
 use Rattle.std.proofs.lemmas.Result.{err_from_is_err_and}
 use Rattle.card_journal.specs.declared.make.NotMade.TheVariants.{Flash, NoMemory}
 use Rattle.card_journal.proofs.BankLemmas.{reads_none}
-use Rattle.card_journal.proofs.MakeLemmas.{blank_after, clean_kept, read_images, refused_by, used_at}
+use Rattle.card_journal.proofs.MakeLemmas.{blank_after, clean_kept, read_images, refused_by}
+use Rattle.card_journal.proofs.MakeLemmas.{used_at}
 use Rattle.card_journal.specs.Made.{HoldsNoneOr, made_card}
 use Rattle.flash_pages.specs.Flash.{LeavesOnly}
 use Rattle.flash_pages.proofs.Touched.{GoesOn-trans, LeavesOnly-trans}

@@ -4,7 +4,8 @@ use Rattle.card_journal.proofs.SwitchedLemmas.{clean_switched, row_read, row_tor
 use Rattle.card_journal.specs.Stored.{EndsTorn}
 use Rattle.card_journal.specs.Stored.{EndsTorn, HoldsEither}
 use Rattle.card_journal.specs.Switched.{copy_bodies}
-use Rattle.card_journal.proofs.StoreLemmas.{clean_known, only_throughout, open_ends, open_kept, open_throughout}
+use Rattle.card_journal.proofs.StoreLemmas.{clean_known, only_throughout, open_ends, open_kept}
+use Rattle.card_journal.proofs.StoreLemmas.{open_throughout}
 use Rattle.flash_pages.proofs.Touched.{GoesOn-trans, at_some, from_each}
 use Rattle.card_journal.proofs.open.open_card.Goals as goal
 

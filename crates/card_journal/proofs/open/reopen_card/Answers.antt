@@ -1,6 +1,7 @@
 use Rattle.std.proofs.Common.{rules, Option, None, IfSome, List, ℕ, sym, subst}
 use Rattle.card_journal.proofs.SwitchedLemmas.{came_back}
-use Rattle.card_journal.proofs.StoreLemmas.{on_ok, on_ok_map, reopen_throughout, restart_opened, restart_throughout}
+use Rattle.card_journal.proofs.StoreLemmas.{on_ok, on_ok_map, reopen_throughout, restart_opened}
+use Rattle.card_journal.proofs.StoreLemmas.{restart_throughout}
 use Rattle.card_journal.specs.Image.{HoldsCard, switch_row}
 use Rattle.card_journal.specs.Stored.{EndsTorn, HoldsEither}
 use Rattle.flash_pages.specs.Switch.{IsNextByte}

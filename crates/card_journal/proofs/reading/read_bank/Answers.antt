@@ -1,4 +1,5 @@
-use Rattle.std.proofs.Common.{◌≡◌, ◌<◌, ◌≤◌, List, ℕ, Option, None, Err, IfSome, sym, ap, subst, arith}
+use Rattle.std.proofs.Common.{◌≡◌, ◌<◌, ◌≤◌, List, ℕ, Option, None, Err, IfSome, sym, ap, subst}
+use Rattle.std.proofs.Common.{arith}
 use Rattle.std.proofs.lemmas.Result.{err_from_is_err_and}
 use Rattle.card_journal.specs.Read.{IsRowAt, ReadUpTo}
 use Rattle.card_journal.specs.declared.fault.ReadFault.{ReadFault}
@@ -8,7 +9,9 @@ use Rattle.flash_pages.specs.Bank.{end_of}
 use Rattle.flash_pages.proofs.Touched.{from_each}
 use Rattle.record_codec.specs.Sizes.{Codes}
 use Rattle.record_codec.specs.declared.durable.Durable.{Durable}
-use Rattle.card_journal.proofs.BankLemmas.{end_found, end_none, entry_none, next_none, next_valid, overrun_none, read_on, read_start, reads_none, reads_then}
+use Rattle.card_journal.proofs.BankLemmas.{end_found, end_none, entry_none, next_none, next_valid}
+use Rattle.card_journal.proofs.BankLemmas.{overrun_none, read_on, read_start, reads_none}
+use Rattle.card_journal.proofs.BankLemmas.{reads_then}
 use Rattle.card_journal.proofs.reading.read_bank.Goals as goal
 
 pub rows-init : goal.rows-init

@@ -1,6 +1,8 @@
 use Rattle.std.proofs.Common.{◌≡◌, ℕ, [], ◌∷◌, Option, IfSome, subst, rules, sym}
 use Rattle.std.specs.Prelude.{⊤}
-use Rattle.card_journal.proofs.SwitchLemmas.{copy_row, copy_throughout, flip_row, flip_stored, flip_switched, flip_throughout, has_next, next_blank, read_throughout, row_same, writes_copy}
+use Rattle.card_journal.proofs.SwitchLemmas.{copy_row, copy_throughout, flip_row, flip_stored}
+use Rattle.card_journal.proofs.SwitchLemmas.{flip_switched, flip_throughout, has_next, next_blank}
+use Rattle.card_journal.proofs.SwitchLemmas.{read_throughout, row_same, writes_copy}
 use Rattle.card_journal.specs.Image.{switch_row}
 use Rattle.flash_pages.specs.Bytes.{IsErased}
 use Rattle.flash_pages.specs.Flash.{Changes}

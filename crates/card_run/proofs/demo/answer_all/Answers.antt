@@ -7,7 +7,9 @@ use Rattle.card_core.specs.declared.script.Statement.{Statement}
 use Rattle.script_text.specs.Item.{Item}
 use Rattle.script_text.specs.Item.Item.{Stated}
 use Rattle.script_text.specs.Lent.{lent_item}
-use Rattle.card_run.proofs.DemoLemmas.{RunSoFar, answered, counted_more, counted_same, finished, moved, passed, start, statements_all, statements_few, stopped}
+use Rattle.card_run.proofs.DemoLemmas.{RunSoFar, answered, counted_more, counted_same, finished}
+use Rattle.card_run.proofs.DemoLemmas.{moved, passed, start, statements_all, statements_few}
+use Rattle.card_run.proofs.DemoLemmas.{stopped}
 use Rattle.card_run.proofs.demo.answer_all.Goals as goal
 
 pub loop-index-init : goal.loop-index-init

@@ -4,7 +4,8 @@ use Rattle.ber_tlv.specs.Tlv.{shortest}
 use Rattle.ber_tlv.specs.Walk.{Object, spelled}
 use Rattle.file_rows.specs.FileHead.{holds_files}
 use Rattle.file_rows.specs.Path.{own_id}
-use Rattle.fcp_codec.specs.Writing.{descriptor_for, life_byte, name_objects, proprietary_objects, rule_objects, last_objects}
+use Rattle.fcp_codec.specs.Writing.{descriptor_for, life_byte, name_objects, proprietary_objects}
+use Rattle.fcp_codec.specs.Writing.{rule_objects, last_objects}
 use Rattle.fcp_codec.specs.declared.tags.TheConstants.{DESCRIPTOR, IDENTIFIER, LIFE}
 use Rattle.fcp_codec.proofs.Joining.{seven_steps}
 use Rattle.fcp_codec.proofs.write.push_fields.Goals as goal

@@ -2,7 +2,9 @@ use Rattle.std.proofs.Common.{◌≡◌, ◌+◌, ◌∙◌, ap, sym, List, ℕ,
 use Rattle.flash_pages.specs.Bytes.{part, patch}
 use Rattle.flash_pages.specs.Rows.{behind_gate}
 use Rattle.flash_pages.proofs.Touched.{at_some, from_each, known_before, same_some}
-use Rattle.flash_pages.proofs.Appended.{IsGated, torn_first, appends_first, torn_both, appends_failed, appends_done, row_fits, gate_erased, rest_erased, rows_after}
+use Rattle.flash_pages.proofs.Appended.{IsGated, torn_first, appends_first, torn_both}
+use Rattle.flash_pages.proofs.Appended.{appends_failed, appends_done, row_fits, gate_erased}
+use Rattle.flash_pages.proofs.Appended.{rest_erased, rows_after}
 use Rattle.flash_pages.proofs.row.append_row.Goals as goal
 
 pub program_behind_gate-requires-clause-erased : goal.program_behind_gate-requires-clause-erased

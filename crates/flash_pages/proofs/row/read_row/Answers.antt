@@ -1,4 +1,5 @@
-use Rattle.std.proofs.Common.{◌≡◌, ◌-◌, ◌*◌, ◌∙◌, ap, ℕ, length, take, drop, min, [], ◌∷◌, arith, length-drop}
+use Rattle.std.proofs.Common.{◌≡◌, ◌-◌, ◌*◌, ◌∙◌, ap, ℕ, length, take, drop, min, [], ◌∷◌, arith}
+use Rattle.std.proofs.Common.{length-drop}
 use Rattle.std.proofs.lemmas.List.{length-take, length-take-le}
 use Rattle.flash_pages.specs.Bank.{end_of}
 use Rattle.flash_pages.specs.Bytes.{part}

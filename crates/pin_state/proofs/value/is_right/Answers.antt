@@ -1,4 +1,5 @@
-use Rattle.std.proofs.Common.{◌≡◌, ◌+◌, ◌-◌, ℕ, length, take, get_or, sym, ◌∙◌, arith, refl, add-one}
+use Rattle.std.proofs.Common.{◌≡◌, ◌+◌, ◌-◌, ℕ, length, take, get_or, sym, ◌∙◌, arith, refl}
+use Rattle.std.proofs.Common.{add-one}
 use Rattle.std.proofs.Math.Seq.{take-length}
 use Rattle.pin_state.proofs.DistanceLemmas.{distance, distance-bytes_eq, distance-next}
 use Rattle.pin_state.proofs.value.is_right.Goals as goal

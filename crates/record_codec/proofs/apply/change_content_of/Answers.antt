@@ -5,7 +5,8 @@ use Rattle.file_rows.specs.Content.{IsValid}
 use Rattle.file_rows.specs.declared.content.Content.{Content}
 use Rattle.file_rows.proofs.EditLemmas.{some_is}
 use Rattle.record_codec.specs.Room.{KeepsChange}
-use Rattle.record_codec.proofs.HeldLemmas.{content_none, content_there, contents_there, place_within}
+use Rattle.record_codec.proofs.HeldLemmas.{content_none, content_there, contents_there}
+use Rattle.record_codec.proofs.HeldLemmas.{place_within}
 use Rattle.record_codec.proofs.apply.change_content_of.Goals as goal
 
 pub change_content_at-requires : goal.change_content_at-requires

@@ -7,7 +7,8 @@ use Rattle.record_codec.specs.Pooled.{pooled_rows}
 use Rattle.record_codec.specs.Sizes.{HasFileSizes}
 use Rattle.record_codec.specs.Spelling.{file}
 use Rattle.record_codec.specs.Window.{Puts}
-use Rattle.record_codec.proofs.PooledLemmas.{length-pooled_rows, put-first, put-one, row_of, sized-fits, start-within}
+use Rattle.record_codec.proofs.PooledLemmas.{length-pooled_rows, put-first, put-one, row_of}
+use Rattle.record_codec.proofs.PooledLemmas.{sized-fits, start-within}
 use Rattle.record_codec.proofs.pooled.put_cut_files.Goals as goal
 
 pub loop-head-init : goal.loop-head-init

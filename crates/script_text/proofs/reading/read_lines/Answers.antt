@@ -6,7 +6,8 @@ use Rattle.script_text.specs.Line.{Says}
 use Rattle.script_text.specs.Words.{IsPassedOver, words}
 use Rattle.script_text.proofs.FeedLemmas.{map-lines_of}
 use Rattle.script_text.proofs.ItemLemmas.{Says-port}
-use Rattle.script_text.proofs.ReadLemmas.{IsScript-read, ReadSoFar-passed, ReadSoFar-said, ReadSoFar-start, line_fault, room_fault}
+use Rattle.script_text.proofs.ReadLemmas.{IsScript-read, ReadSoFar-passed, ReadSoFar-said}
+use Rattle.script_text.proofs.ReadLemmas.{ReadSoFar-start, line_fault, room_fault}
 use Rattle.script_text.proofs.reading.read_lines.Goals as goal
 
 pub lines-init : goal.lines-init

@@ -1,5 +1,6 @@
 use Rattle.script_text.proofs.FactLemmas.{pieces-from_reads, ports-from_reads}
-use Rattle.script_text.proofs.FaultLemmas.{fault-from_reads, read-from_reads, refused-from_reads, script-from_reads}
+use Rattle.script_text.proofs.FaultLemmas.{fault-from_reads, read-from_reads, refused-from_reads}
+use Rattle.script_text.proofs.FaultLemmas.{script-from_reads}
 use Rattle.script_text.proofs.reading.read_script_of.Goals as goal
 
 pub returns : goal.returns

@@ -2,7 +2,8 @@ use Rattle.std.proofs.Common.{◌∙◌, ap, arith}
 use Rattle.apdu_codec.specs.Command.{apdu_of}
 use Rattle.uicc_channels.specs.CommandRow.{CommandRow, decided}
 use Rattle.uicc_tree.specs.Files.{rows_of}
-use Rattle.uicc_admin.proofs.AdministrationLemmas.{row-activate, row-create, row-deactivate, row-delete, row-resize, row-terminate}
+use Rattle.uicc_admin.proofs.AdministrationLemmas.{row-activate, row-create, row-deactivate}
+use Rattle.uicc_admin.proofs.AdministrationLemmas.{row-delete, row-resize, row-terminate}
 use Rattle.uicc_admin.proofs.dispatch.admin_command.Goals as goal
 
 pub returns-in-224 : goal.returns-in-224

@@ -1,4 +1,5 @@
-use Rattle.uicc_admin.proofs.CreateRowLemmas.{added_file, application_stays, other_channels-create, other_files-create}
+use Rattle.uicc_admin.proofs.CreateRowLemmas.{added_file, application_stays, other_channels-create}
+use Rattle.uicc_admin.proofs.CreateRowLemmas.{other_files-create}
 use Rattle.uicc_admin.proofs.laws.created_files_come_alone.Goals as goal
 
 pub returns-clause-added : goal.returns-clause-added

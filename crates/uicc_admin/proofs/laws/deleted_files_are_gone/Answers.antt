@@ -1,4 +1,5 @@
-use Rattle.uicc_admin.proofs.DeleteRowLemmas.{gone_files, none_named, other_channels-delete, other_files-delete}
+use Rattle.uicc_admin.proofs.DeleteRowLemmas.{gone_files, none_named, other_channels-delete}
+use Rattle.uicc_admin.proofs.DeleteRowLemmas.{other_files-delete}
 use Rattle.uicc_admin.proofs.laws.deleted_files_are_gone.Goals as goal
 
 pub returns-clause-gone : goal.returns-clause-gone

@@ -2,9 +2,12 @@ use Rattle.std.proofs.Common.{◌≢◌, ℕ, List, length, drop, ◌∙◌, ari
 use Rattle.std.proofs.lemmas.List.{length-drop}
 use Rattle.ber_tlv.proofs.ObjectLemmas.{no_object, object_read}
 use Rattle.ber_tlv.specs.Walk.{object_of}
-use Rattle.uicc_admin.proofs.TemplateLemmas.{false_left, false_right, not_that, nothing_read, other_read, template_read}
+use Rattle.uicc_admin.proofs.TemplateLemmas.{false_left, false_right, not_that, nothing_read}
+use Rattle.uicc_admin.proofs.TemplateLemmas.{other_read, template_read}
 use Rattle.uicc_admin.proofs.template.read_template.Goals as goal
-use Rattle.uicc_admin.proofs.template.read_template.Goals.{in_default-via-in-Ok+then-tlv-eq98+else-count-body, in_default-via-in-Ok+else-tlv-eq98, in_default-via-in_default}
+use Rattle.uicc_admin.proofs.template.read_template.Goals.{in_default-via-in-Ok+then-tlv-eq98+else-count-body}
+use Rattle.uicc_admin.proofs.template.read_template.Goals.{in_default-via-in-Ok+else-tlv-eq98}
+use Rattle.uicc_admin.proofs.template.read_template.Goals.{in_default-via-in_default}
 
 pub returns-in-Ok : goal.returns-in-Ok
 returns-in-Ok c =

@@ -1,5 +1,6 @@
 use Rattle.std.proofs.Common.{◌≡◌, None, refl, arith}
-use Rattle.uicc_channels.proofs.ChannelLemmas.{opening-apart, opening-other, opening-own, waiting-own}
+use Rattle.uicc_channels.proofs.ChannelLemmas.{opening-apart, opening-other, opening-own}
+use Rattle.uicc_channels.proofs.ChannelLemmas.{waiting-own}
 use Rattle.uicc_channels.proofs.ManageLemmas.{manage-has}
 use Rattle.uicc_channels.proofs.ResponseLemmas.{response-has}
 use Rattle.uicc_channels.proofs.SessionLemmas.{channel_at-waiting, channel_at-with_channel}

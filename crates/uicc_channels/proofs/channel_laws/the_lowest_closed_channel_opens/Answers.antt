@@ -1,7 +1,8 @@
 use Rattle.std.proofs.Common.{◌≡◌, ◌≢◌, ℕ, Some, None, sym, subst, ◌∙◌, inl, inr, arith}
 use Rattle.std.proofs.lemmas.Bool.{cases_eq}
 use Rattle.apdu_codec.specs.Command.{Apdu}
-use Rattle.uicc_channels.proofs.ChannelLemmas.{closing-opens_none, open_and_closed, opening-closes_none, opening-is, opening-stands}
+use Rattle.uicc_channels.proofs.ChannelLemmas.{closing-opens_none, open_and_closed}
+use Rattle.uicc_channels.proofs.ChannelLemmas.{opening-closes_none, opening-is, opening-stands}
 use Rattle.uicc_channels.proofs.ManageLemmas.{IsClosing, lowest_closed-is, manage-has}
 use Rattle.uicc_channels.proofs.SessionLemmas.{channel_at-with_channel}
 use Rattle.uicc_channels.specs.ChannelLaws.{IsLowestClosed}

@@ -1,4 +1,5 @@
-use Rattle.uicc_channels.proofs.SessionLemmas.{channel_at-waiting, channel_at-waiting_same, refresh-waiting, session-waiting, verified-waiting}
+use Rattle.uicc_channels.proofs.SessionLemmas.{channel_at-waiting, channel_at-waiting_same}
+use Rattle.uicc_channels.proofs.SessionLemmas.{refresh-waiting, session-waiting, verified-waiting}
 use Rattle.uicc_channels.proofs.laws.answers_stay_on_their_channel.Goals as goal
 
 pub returns-clause-waits : goal.returns-clause-waits

@@ -1,4 +1,5 @@
-use Rattle.uicc_channels.proofs.SessionLemmas.{channel_at-fresh_basic, channel_at-fresh_closed, channel_at-fresh_kept}
+use Rattle.uicc_channels.proofs.SessionLemmas.{channel_at-fresh_basic, channel_at-fresh_closed}
+use Rattle.uicc_channels.proofs.SessionLemmas.{channel_at-fresh_kept}
 use Rattle.uicc_channels.proofs.laws.fresh_sessions_have_their_channels.Goals as goal
 
 pub returns-clause-kept : goal.returns-clause-kept

@@ -1,5 +1,6 @@
 use Rattle.std.proofs.Common.{Some, None, refl}
-use Rattle.uicc_channels.proofs.SessionLemmas.{Suits-fresh_session, Suits-waiting, Suits-with_channel}
+use Rattle.uicc_channels.proofs.SessionLemmas.{Suits-fresh_session, Suits-waiting}
+use Rattle.uicc_channels.proofs.SessionLemmas.{Suits-with_channel}
 use Rattle.uicc_channels.proofs.laws.sessions_suit_their_cards.Goals as goal
 
 pub returns-clause-fresh : goal.returns-clause-fresh

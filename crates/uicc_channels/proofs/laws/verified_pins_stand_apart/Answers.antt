@@ -1,4 +1,5 @@
-use Rattle.uicc_channels.proofs.VerifiedLemmas.{is_verified-with_pin_other, is_verified-with_pin_same}
+use Rattle.uicc_channels.proofs.VerifiedLemmas.{is_verified-with_pin_other}
+use Rattle.uicc_channels.proofs.VerifiedLemmas.{is_verified-with_pin_same}
 use Rattle.uicc_channels.proofs.laws.verified_pins_stand_apart.Goals as goal
 
 pub returns-clause-same : goal.returns-clause-same

@@ -2,7 +2,8 @@ use Rattle.std.proofs.Common.{◌∙◌, ap, arith}
 use Rattle.apdu_codec.specs.Command.{apdu_of}
 use Rattle.uicc_channels.specs.CommandRow.{CommandRow, decided}
 use Rattle.uicc_tree.specs.Files.{rows_of}
-use Rattle.uicc_data.proofs.DataLemmas.{row-increase, row-read_binary, row-read_record, row-search_record, row-update_binary, row-update_record}
+use Rattle.uicc_data.proofs.DataLemmas.{row-increase, row-read_binary, row-read_record}
+use Rattle.uicc_data.proofs.DataLemmas.{row-search_record, row-update_binary, row-update_record}
 use Rattle.uicc_data.proofs.dispatch.data_command.Goals as goal
 
 pub returns-in-176 : goal.returns-in-176

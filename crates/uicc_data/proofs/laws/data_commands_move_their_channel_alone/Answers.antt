@@ -1,5 +1,7 @@
 use Rattle.uicc_channels.specs.CommandOutcome.{CommandOutcome}
-use Rattle.uicc_data.proofs.OutcomeLemmas.{increase-has, moves, read_binary-has, read_record-has, search_record-has, stays, stays_waiting, update_binary-has, update_record-has, waits}
+use Rattle.uicc_data.proofs.OutcomeLemmas.{increase-has, moves, read_binary-has, read_record-has}
+use Rattle.uicc_data.proofs.OutcomeLemmas.{search_record-has, stays, stays_waiting}
+use Rattle.uicc_data.proofs.OutcomeLemmas.{update_binary-has, update_record-has, waits}
 use Rattle.uicc_data.specs.Moves.{MovesAlone, MovesAndWaits}
 use Rattle.uicc_data.proofs.laws.data_commands_move_their_channel_alone.Goals as goal
 

@@ -1,4 +1,5 @@
-use Rattle.uicc_data.proofs.WriteLemmas.{first_written, later_written, other_written, record_written}
+use Rattle.uicc_data.proofs.WriteLemmas.{first_written, later_written, other_written}
+use Rattle.uicc_data.proofs.WriteLemmas.{record_written}
 use Rattle.uicc_data.proofs.laws.written_records_stand_in_their_places.Goals as goal
 
 pub returns-clause-written : goal.returns-clause-written

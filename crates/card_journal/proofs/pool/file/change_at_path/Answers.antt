@@ -4,7 +4,8 @@ use Rattle.file_rows.specs.Change.{file_after}
 use Rattle.file_rows.specs.declared.row.FileRow.{FileRow}
 use Rattle.card_journal.specs.Pool.{CanWrite, HasSizeRoom}
 use Rattle.record_codec.specs.Pooled.{pooled_rows}
-use Rattle.card_journal.proofs.PoolChangeLemmas.{can_there, changed_at_path, head_there, some_weaker, unchanged_at}
+use Rattle.card_journal.proofs.PoolChangeLemmas.{can_there, changed_at_path, head_there}
+use Rattle.card_journal.proofs.PoolChangeLemmas.{some_weaker, unchanged_at}
 use Rattle.card_journal.proofs.pool.file.change_at_path.Goals as goal
 
 pub change_file-requires-clause-can : goal.change_file-requires-clause-can

@@ -1,4 +1,5 @@
-use Rattle.std.proofs.Common.{ℕ, ◌++◌, take, drop, ◌≡◌, set, ◌≤◌, ◌+◌, arith, length, vec_capacity, Option, subst}
+use Rattle.std.proofs.Common.{ℕ, ◌++◌, take, drop, ◌≡◌, set, ◌≤◌, ◌+◌, arith, length, vec_capacity}
+use Rattle.std.proofs.Common.{Option, subst}
 use Rattle.std.specs.Prelude.{slice_get, IsSomeAnd}
 use Rattle.file_rows.specs.Change.{resized}
 use Rattle.file_rows.specs.declared.head.FileHead.{FileHead}

@@ -1,4 +1,5 @@
-use Rattle.std.proofs.Common.{◌≡◌, ◌+◌, ◌-◌, ℕ, length, Some, None, IfSome, refl, sym, ap, subst, arith}
+use Rattle.std.proofs.Common.{◌≡◌, ◌+◌, ◌-◌, ℕ, length, Some, None, IfSome, refl, sym, ap, subst}
+use Rattle.std.proofs.Common.{arith}
 use Rattle.card_journal.proofs.StoreLemmas.{clean_erased, kept_of, some_first_erased, stored_of}
 use Rattle.card_journal.specs.Image.{bank_of}
 use Rattle.card_journal.specs.Store.{store_of}

@@ -1,7 +1,9 @@
 use Rattle.std.proofs.Common.{arith}
 use Rattle.std.proofs.lemmas.Bool.Decides.{nat_tests}
 use Rattle.ber_tlv.specs.Walk.{object_of}
-use Rattle.fcp_codec.proofs.Taking.{take_descriptor, take_id, take_size, take_sfi, take_name, take_life, take_rule, take_proprietary, take_pin_status, take_none}
+use Rattle.fcp_codec.proofs.Taking.{take_descriptor, take_id, take_size, take_sfi, take_name}
+use Rattle.fcp_codec.proofs.Taking.{take_life, take_rule, take_proprietary, take_pin_status}
+use Rattle.fcp_codec.proofs.Taking.{take_none}
 use Rattle.fcp_codec.proofs.read.Fields.take.Goals as goal
 
 pub returns-in-130 : goal.returns-in-130

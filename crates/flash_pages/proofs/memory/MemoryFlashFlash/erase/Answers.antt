@@ -1,4 +1,5 @@
-use Rattle.std.proofs.Common.{◌+◌, ◌*◌, ◌≤◌, ℕ, List, Some, Ok, true, false, length, refl, sym, ap, ◌∙◌, arith}
+use Rattle.std.proofs.Common.{◌+◌, ◌*◌, ◌≤◌, ℕ, List, Some, Ok, true, false, length, refl, sym, ap}
+use Rattle.std.proofs.Common.{◌∙◌, arith}
 use Rattle.std.proofs.lemmas.Bool.{false≢true}
 use Rattle.std.proofs.lemmas.List.{with_items_is}
 use Rattle.flash_pages.specs.declared.plan.Outcome.{Outcome}
@@ -7,7 +8,8 @@ use Rattle.flash_pages.specs.Left.{left_by, with_left}
 use Rattle.flash_pages.specs.Past.{Past, Write, after_call}
 use Rattle.flash_pages.specs.Plan.{next_outcome}
 use Rattle.flash_pages.proofs.Patches.{length-blank, length-patch}
-use Rattle.flash_pages.proofs.MemoryCalls.{IsKept, Changes-memory, kept_after, content-write, erased_block, left_size, is_done-is, not_ok}
+use Rattle.flash_pages.proofs.MemoryCalls.{IsKept, Changes-memory, kept_after, content-write}
+use Rattle.flash_pages.proofs.MemoryCalls.{erased_block, left_size, is_done-is, not_ok}
 use Rattle.flash_pages.proofs.memory.MemoryFlashFlash.erase.Goals as goal
 
 pub returns-in_err-begin-clause-changes : goal.returns-in_err-begin-clause-changes

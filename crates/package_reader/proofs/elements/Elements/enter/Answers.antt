@@ -1,4 +1,5 @@
-use Rattle.std.proofs.Common.{◌≡◌, ℕ, ◌+◌, ◌-◌, ◌≤◌, Bool, List, take, ◌++◌, ◌∷◌, [], true, false, cond, length, drop, ap, subst, sym, ◌∙◌}
+use Rattle.std.proofs.Common.{◌≡◌, ℕ, ◌+◌, ◌-◌, ◌≤◌, Bool, List, take, ◌++◌, ◌∷◌, [], true, false}
+use Rattle.std.proofs.Common.{cond, length, drop, ap, subst, sym, ◌∙◌}
 use Rattle.ber_tlv.specs.Head.{BeginsWithHead}
 use Rattle.package_reader.specs.ReaderState.{ReaderState, opens}
 use Rattle.package_reader.proofs.Handing.{enters}

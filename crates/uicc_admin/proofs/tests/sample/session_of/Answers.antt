@@ -1,4 +1,5 @@
-use Rattle.std.proofs.Common.{◌≡◌, List, [], ◌∷◌, ℕ, false, refl, sym, ◌∙◌, ap, inl, inr, Some, None, IsTrue}
+use Rattle.std.proofs.Common.{◌≡◌, List, [], ◌∷◌, ℕ, false, refl, sym, ◌∙◌, ap, inl, inr, Some}
+use Rattle.std.proofs.Common.{None, IsTrue}
 use Rattle.file_rows.proofs.EditLemmas.{is_some_and}
 use Rattle.file_rows.specs.Content.{file_at}
 use Rattle.file_rows.specs.FileHead.{holds_files}

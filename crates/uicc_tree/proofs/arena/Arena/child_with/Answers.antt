@@ -1,6 +1,7 @@
 use Rattle.std.proofs.Common.{arith, ◌<◌, sym, ◌∙◌, ap}
 use Rattle.uicc_tree.specs.Arena.{children_of, files_of}
-use Rattle.uicc_tree.proofs.TreeLemmas.{in_slots, child_at, child_of_id, child_place, node_of_path, no_file_at}
+use Rattle.uicc_tree.proofs.TreeLemmas.{in_slots, child_at, child_of_id, child_place, node_of_path}
+use Rattle.uicc_tree.proofs.TreeLemmas.{no_file_at}
 use Rattle.uicc_tree.proofs.arena.Arena.child_with.Goals as goal
 
 pub head-requires : goal.head-requires

@@ -2,7 +2,8 @@ use Rattle.std.proofs.Common.{ℕ, refl, sym, ◌∙◌, ap, subst, Option, Some
 use Rattle.uicc_tree.specs.Arena.{AddsNode, CanStand, children_of, files_of}
 use Rattle.uicc_tree.specs.Files.{Files, IsLive, file_of, rows_of}
 use Rattle.uicc_tree.proofs.AddLemmas.{adds_to_tree, live_stays}
-use Rattle.uicc_tree.proofs.PlaceLemmas.{adds_alone, adds_named, directory_live, marked_new, room_stays, rows_added, same_arena, within_new}
+use Rattle.uicc_tree.proofs.PlaceLemmas.{adds_alone, adds_named, directory_live, marked_new}
+use Rattle.uicc_tree.proofs.PlaceLemmas.{room_stays, rows_added, same_arena, within_new}
 use Rattle.uicc_tree.proofs.arena.Arena.place.Goals as goal
 use Rattle.uicc_tree.proofs.arena.Arena.place.Goals.{After-append_child, In_default}
 

@@ -1,4 +1,5 @@
-use Rattle.std.proofs.Common.{◌≡◌, ℕ, ◌-◌, ◌≤◌, Bool, cond, List, ◌++◌, length, take, replicate, vec_len, arith, refl, sym, ◌∙◌, ap}
+use Rattle.std.proofs.Common.{◌≡◌, ℕ, ◌-◌, ◌≤◌, Bool, cond, List, ◌++◌, length, take, replicate}
+use Rattle.std.proofs.Common.{vec_len, arith, refl, sym, ◌∙◌, ap}
 use Rattle.std.specs.Prelude.{vec_capacity}
 use Rattle.std.proofs.lemmas.List.{append-nil}
 use Rattle.file_rows.specs.Change.{resized, with_size}

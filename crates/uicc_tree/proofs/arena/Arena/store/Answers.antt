@@ -1,4 +1,5 @@
-use Rattle.std.proofs.Common.{arith, ◌≡◌, ℕ, ◌<◌, Bool, cond, List, ◌∷◌, [], ◌++◌, length, vec_len, ◌∙◌, ap, sym, ⊎_elim}
+use Rattle.std.proofs.Common.{arith, ◌≡◌, ℕ, ◌<◌, Bool, cond, List, ◌∷◌, [], ◌++◌, length, vec_len}
+use Rattle.std.proofs.Common.{◌∙◌, ap, sym, ⊎_elim}
 use Rattle.std.specs.Prelude.{slice_get, vec_capacity}
 use Rattle.uicc_tree.specs.declared.arena.Slot.{Slot}
 use Rattle.uicc_tree.proofs.SlotLemmas.{get-push_same, get-push_other, get-set_same, get-set_other}
