@@ -7,6 +7,7 @@ pub mod Kept
 pub mod Left
 pub mod Memory
 pub mod MemoryLaw
+pub mod MemoryShelf
 pub mod Past
 pub mod Plan
 pub mod Rows

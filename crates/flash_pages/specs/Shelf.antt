@@ -28,6 +28,7 @@ NothingIsOut place = (name : List ℕ) → (place name).is_out ≡ false
 pub record IsTaken {F : Type 0} (old new : ShelfPlace F) (flash : F) : Type 0 where
   pub reports : new.reports ≡ old.reports
   pub it_was_there : IsTrue old.reports → old.there ≡ Some flash
+  pub gone : new.there ≡ None
   pub out : new.is_out ≡ true
   pub faults : new.faults ≡ old.faults
 
@@ -41,3 +42,8 @@ pub record IsLeft {F : Type 0} (old new : ShelfPlace F) : Type 0 where
 abbrev pub given_back : {F : Type 0} → ShelfPlace F → F → ℕ → ShelfPlace F
 given_back place flash faults = record place
     { there = if place.reports then Some flash else None; is_out = false; faults = faults }
+
+-- this flash lies there under each name that is reported, or none does
+abbrev pub HoldsFlash : {F : Type 0} → (List ℕ → ShelfPlace F) → Option F → Type 0
+HoldsFlash place flash =
+    (name : List ℕ) → IsTrue (place name).reports → (place name).there ≡ flash

@@ -1,5 +1,6 @@
 ghost use Rattle.std.specs.Prelude.{◌≡◌, false, IfOk};
 ghost use Rattle.flash_pages.specs.ServedName.{place_at, unreported_place};
+ghost use Rattle.flash_pages.specs.Shelf.{NothingIsOut};
 
 use crate::{BLOCK_LEN, BLOCKS, FLASH_LEN, FileFlash, Flash, Shelf};
 use port_io::Failed;
@@ -26,12 +27,14 @@ pub struct FileShelf<R: Files + Drop> {
 
 impl<R: Files + Drop> FileShelf<R>
 where
-    R::File: FileExt,
+    R::File: FileExt + Send,
 {
     /// A shelf that serves that name in that file system.
-    pub fn new(alloc: Global, files: R, name: String) -> Result<Self, NoMemory>
-        ensures { IfOk result (λ shelf. (shelf.name ≡ name) × (shelf.is_out ≡ false)
-            × (shelf.faults ≡ 0)) }
+    pub fn new(files: R, alloc: Global, name: String) -> Result<Self, NoMemory>
+        ensures places { IfOk result (λ shelf. ⟦<FileShelf<R> as Shelf>⟧.place shelf
+            ≡ place_at name.bytes.items (unreported_place false 0)) }
+        ensures none_out { IfOk result
+            (λ shelf. NothingIsOut (⟦<FileShelf<R> as Shelf>⟧.place shelf)) }
     {
         let mut unfinished = String::new(alloc);
         unfinished.push_str(&name)?;
@@ -44,7 +47,12 @@ where
             faults: 0,
         })
     }
+}
 
+impl<R: Files + Drop> FileShelf<R>
+where
+    R::File: FileExt,
+{
     // Makes the file, blank.
     fn make(&self) -> io::Result<R::File> {
         let file = OpenOptions::new()
@@ -103,6 +111,14 @@ where
 
     ghost place = { λ shelf. place_at shelf.name.bytes.items
         (unreported_place shelf.is_out shelf.faults) };
+
+    fn faults(&self, name: &str) -> u64 {
+        if name == self.name.as_str() {
+            self.faults
+        } else {
+            u64::MAX
+        }
+    }
 
     fn take_flash(&mut self, name: &str) -> Result<FileFlash<R::File>, Failed> {
         if name != self.name.as_str() {

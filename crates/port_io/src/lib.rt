@@ -1,9 +1,10 @@
 //! Where a program's bytes come from and where they go: a `Source` and a `Sink`, over memory and
 //! over the standard streams, read to the end and written whole. Each counts its faults, and a
-//! call fails only where that count rose.
+//! call fails only where that count rose. A `Gate` is passed inside each statement of a port.
 #![tactic(auto)]
 
 mod calls;
+mod gate;
 mod memory_sink;
 mod memory_source;
 mod sink;
@@ -11,6 +12,7 @@ mod source;
 mod std_sink;
 mod std_source;
 
+pub use gate::{Gate, OpenGate};
 pub use memory_sink::MemorySink;
 pub use memory_source::MemorySource;
 pub use sink::{Sink, write_all};

@@ -1,8 +1,10 @@
 // What no clause says, and each generic call once at a concrete type.
 use super::*;
-use std::io;
 use std::io::{Read, Write};
+use std::sync::{Mutex, Wait};
 use std::test::Fail;
+use std::thread::Threads;
+use std::{io, thread};
 
 #[test]
 fn a_source_gives_its_bytes_and_then_the_end(rt: HostRuntime) -> Result<(), Fail> {
@@ -167,4 +169,34 @@ fn a_stream_of_the_system_passes_its_results_on(rt: HostRuntime) -> Result<(), F
 fn the_standard_output_is_a_sink(rt: HostRuntime) {
     let mut sink = StdSink::new(io::writer(&rt));
     assert_eq!(rt; sink.put(b"written\n"), Ok(8));
+}
+
+/// A gate that adds up, under a lock, the ports and numbers that passed it.
+#[derive(Drop)]
+struct Counting<'a, R: Wait> {
+    rt: &'a R,
+    sum: Mutex<u64>,
+}
+
+impl<'a, R: Wait> Gate for Counting<'a, R> {
+    fn pass(&self, port: u8, step: u64) {
+        let mut sum = self.sum.lock(self.rt);
+        *sum = sum.saturating_add(u64::from(port)).saturating_add(step);
+    }
+}
+
+// Both threads pass the same gate.
+fn pass_from_two_threads<R: Threads + Sync, G: Gate + Sync>(rt: &R, gate: &G) {
+    thread::join(rt, || gate.pass(0, 1), || gate.pass(1, 20));
+}
+
+#[test]
+fn a_gate_is_shared_by_threads_and_may_wait(rt: HostRuntime) {
+    pass_from_two_threads(&rt, &OpenGate);
+    let gate = Counting {
+        rt: &rt,
+        sum: Mutex::new(0),
+    };
+    pass_from_two_threads(&rt, &gate);
+    assert_eq!(rt; gate.sum.into_inner(), 22);
 }

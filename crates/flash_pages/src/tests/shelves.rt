@@ -22,6 +22,9 @@ fn a_flash_in_memory_comes_back_with_its_faults(rt: HostRuntime) -> Result<(), F
     };
     assert_eq!(rt; flash.faults(), 1);
     assert_eq!(rt; reads(&mut flash, 10, b"hello"), Some(true));
+    shelf.give_flash("card", flash);
+    assert_eq!(rt; shelf.faults("card"), 1);
+    assert_eq!(rt; shelf.into_flash().map(|flash| flash.faults()), Some(1));
     Ok(())
 }
 
@@ -31,6 +34,8 @@ fn another_name_has_no_flash(rt: HostRuntime) -> Result<(), Fail> {
     let flash = flash_with(alloc, &[], None, &[])?;
     let mut shelf = MemoryShelf::new(String::from_str(alloc, "card")?, flash);
     assert!(rt; shelf.take_flash("another").is_err());
+    assert_eq!(rt; shelf.faults("card"), 0);
+    assert!(rt; shelf.into_flash().is_some());
     Ok(())
 }
 
@@ -40,7 +45,7 @@ fn a_missing_file_is_made_blank_and_keeps_what_is_programmed(rt: HostRuntime) ->
     let name = format!(in alloc; "flash-{}", process::id(rt.process()))?;
     let path = env::temp_dir(&rt)?.join(alloc, name.as_str())?;
     let file = path.as_path().to_str().unwrap_or("flash");
-    let mut shelf = FileShelf::new(alloc, &rt, String::from_str(alloc, file)?)?;
+    let mut shelf = FileShelf::new(&rt, alloc, String::from_str(alloc, file)?)?;
     let Ok(mut flash) = shelf.take_flash(file) else {
         panic!(rt; "no flash");
     };
@@ -69,13 +74,14 @@ fn a_file_of_another_length_is_refused(rt: HostRuntime) -> Result<(), Fail> {
     let path = env::temp_dir(&rt)?.join(alloc, name.as_str())?;
     let file = path.as_path().to_str().unwrap_or("flash-short");
     fs::write(&rt, file, b"short")?;
-    let mut shelf = FileShelf::new(alloc, &rt, String::from_str(alloc, file)?)?;
-    let refused = shelf.take_flash(file).is_err();
+    let mut shelf = FileShelf::new(&rt, alloc, String::from_str(alloc, file)?)?;
+    let refused = shelf.take_flash(file).is_err() && shelf.take_flash(file).is_err();
     let left = fs::metadata(&rt, file)?.len();
     fs::remove_file(&rt, file)?;
     assert!(rt; refused);
+    assert_eq!(rt; shelf.faults(file), 2);
     assert_eq!(rt; left, 5);
-    let mut unnamed = FileShelf::new(alloc, &rt, String::new(alloc))?;
+    let mut unnamed = FileShelf::new(&rt, alloc, String::new(alloc))?;
     assert!(rt; unnamed.take_flash("").is_err());
     Ok(())
 }
