@@ -1,6 +1,6 @@
 -- What is read of bytes.
 use Rattle.std.proofs.Common.{◌≡◌, ◌⊎◌, ℕ, List, Result, Ok, Err, refl, ap, inl, inr}
-use Rattle.std.specs.Prelude.{IfOk}
+use Rattle.std.specs.Prelude.{IfOk, IsErrOf}
 use Rattle.record_codec.specs.Sizes.{Codes}
 use Rattle.record_codec.specs.declared.fault.RecordFault.{RecordFault}
 use Rattle.record_codec.specs.declared.fault.RecordFault.TheVariants.{NotARecord, NoMemory}
@@ -20,3 +20,8 @@ module _ (bytes : List ℕ) where
   is_malformed (Ok its) found none = absurd (none its found)
   is_malformed (Err NotARecord) found none = inl refl
   is_malformed (Err NoMemory) found none = inr refl
+
+-- a refusal that isn't for want of memory
+pub is_not_a_record : {X : Type 0} (fault : RecordFault) → (IsErrOf {T = X} (Err fault) NoMemory → ⊥) → IsErrOf {T = X} (Err fault) NotARecord
+is_not_a_record NotARecord memory = refl
+is_not_a_record NoMemory memory = absurd (memory refl)

@@ -208,7 +208,7 @@ none_some : {X : Type 0} (x : X) → Some x ≡ None → ⊥
 none_some x e = absurd cc
 
 module _ (bytes : List ℕ) (entry : Record) (codes : Codes bytes entry) where
-  is_read : record_read bytes ≡ Some (entry, [])
+  pub is_read : record_read bytes ≡ Some (entry, [])
   is_read = ap record_read codes.bytes_are ∙ whole_again entry codes.values
 
   pub not_none : record_read bytes ≡ None → ⊥

@@ -5,6 +5,7 @@ pub mod Bind
 pub mod Content
 pub mod CopyRecord
 pub mod Fields
+pub mod FileWrite
 pub mod FitsCard
 pub mod Returns
 pub mod Gone

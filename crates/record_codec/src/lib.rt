@@ -11,6 +11,7 @@ mod durable;
 mod effect;
 mod fault;
 mod file_change;
+mod file_write;
 mod fits;
 mod laws;
 mod lists;
@@ -38,6 +39,7 @@ pub use counts::{count_of, count_of_each, head_of, is_held, operation_bit};
 pub use durable::{Durable, Heads, ProfileList};
 pub use fault::RecordFault;
 pub use file_change::{put_bytes, write_bytes};
+pub use file_write::{FileWrite, WritePlace, read_file_write};
 pub use fits::{content_of, place_of};
 pub use laws::{
     codings_are_unique, fitting_records_are_short, fitting_records_have_sizes,
@@ -49,6 +51,7 @@ pub use reading::read_record;
 pub use record::{Numbers, Record};
 pub use room::Room;
 pub use std::alloc::AllocError as NoMemory;
+pub use takes::fewest_ports;
 pub use writing::{put_record, record_len};
 
 #[cfg(test)]

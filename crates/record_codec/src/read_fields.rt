@@ -1,5 +1,5 @@
 // The fields of records, read from their bytes: a value and the bytes behind it.
-ghost use Rattle.std.specs.Prelude.{◌≡◌, ◌<◌, ◌≤◌, ◌^◌, length, IfOk};
+ghost use Rattle.std.specs.Prelude.{◌≡◌, ◌<◌, ◌≤◌, ◌^◌, length, IfOk, IsErrOf};
 ghost use Rattle.std.specs.Int.{w16, w32, w64};
 ghost use Rattle.record_codec.specs.Returns.{Returns};
 ghost use Rattle.record_codec.specs.Reading.{byte_at, flag_of, items_at, kind_of, life_read};
@@ -13,7 +13,8 @@ use plain_lists::ShortList;
 use port_table::PortMode;
 
 pub fn byte_of(bytes: &[u8]) -> Result<(u8, &[u8]), RecordFault>
-    ensures { Returns (λ x. (x.0, x.1.now)) result (byte_at bytes.now) }
+    ensures read { Returns (λ x. (x.0, x.1.now)) result (byte_at bytes.now) }
+    ensures known { ¬ IsErrOf result RecordFault.NoMemory }
 {
     match bytes {
         [byte, rest @ ..] => Ok((*byte, rest)),
@@ -24,6 +25,7 @@ pub fn byte_of(bytes: &[u8]) -> Result<(u8, &[u8]), RecordFault>
 pub fn plain_of(count: usize, bytes: &[u8]) -> Result<(&[u8], &[u8]), RecordFault>
     ensures read { Returns (λ x. (x.0.now, x.1.now)) result (plain_at count bytes.now) }
     ensures exact { IfOk result (λ x. length x.0.now ≡ count) }
+    ensures known { ¬ IsErrOf result RecordFault.NoMemory }
 {
     if bytes.len() < count {
         return Err(RecordFault::NotARecord);
@@ -32,7 +34,8 @@ pub fn plain_of(count: usize, bytes: &[u8]) -> Result<(&[u8], &[u8]), RecordFaul
 }
 
 pub fn number2_of(bytes: &[u8]) -> Result<(u16, &[u8]), RecordFault>
-    ensures { Returns (λ x. (x.0, x.1.now)) result (number_at w16 bytes.now) }
+    ensures read { Returns (λ x. (x.0, x.1.now)) result (number_at w16 bytes.now) }
+    ensures known { ¬ IsErrOf result RecordFault.NoMemory }
 {
     if bytes.len() < 2 {
         return Err(RecordFault::NotARecord);
@@ -68,6 +71,7 @@ pub fn number8_of(bytes: &[u8]) -> Result<(u64, &[u8]), RecordFault>
 pub fn string_of(most: u16, bytes: &[u8]) -> Result<(&[u8], &[u8]), RecordFault>
     ensures read { Returns (λ x. (x.0.now, x.1.now)) result (string_at most bytes.now) }
     ensures few { IfOk result (λ x. length x.0.now ≤ most) }
+    ensures known { ¬ IsErrOf result RecordFault.NoMemory }
 {
     let (count, rest) = number2_of(bytes)?;
     if count > most {

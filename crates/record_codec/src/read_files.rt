@@ -1,5 +1,5 @@
 // Paths, files, PINs and changes, read from their bytes.
-ghost use Rattle.std.specs.Prelude.{◌≡◌, ◌≤◌, length};
+ghost use Rattle.std.specs.Prelude.{◌≡◌, ◌≤◌, length, IsErrOf};
 ghost use Rattle.std.specs.Int.{w16};
 ghost use Rattle.record_codec.specs.Returns.{Returns};
 ghost use Rattle.record_codec.specs.Reading.{byte_at, change_at, change_of, file_read};
@@ -19,7 +19,8 @@ pub fn numbers_of<const CAP: usize>(
     bytes: &[u8],
 ) -> Result<(ShortList<u16, CAP>, &[u8]), RecordFault>
     requires { count ≤ CAP }
-    ensures { Returns (λ x. (x.0, x.1.now)) result (items_at (number_at w16) count bytes.now) }
+    ensures read { Returns (λ x. (x.0, x.1.now)) result (items_at (number_at w16) count bytes.now) }
+    ensures known { ¬ IsErrOf result RecordFault.NoMemory }
 {
     let mut numbers = ShortList::new();
     let mut rest = bytes;
@@ -33,7 +34,8 @@ pub fn numbers_of<const CAP: usize>(
 
 #[tactic(auto, unfolding(crate::specs::Reading::path_at))]
 pub fn path_of(bytes: &[u8]) -> Result<(Path, &[u8]), RecordFault>
-    ensures { Returns (λ x. (x.0, x.1.now)) result (path_at bytes.now) }
+    ensures read { Returns (λ x. (x.0, x.1.now)) result (path_at bytes.now) }
+    ensures known { ¬ IsErrOf result RecordFault.NoMemory }
 {
     let (count, rest) = byte_of(bytes)?;
     if count > 4 {

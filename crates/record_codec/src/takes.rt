@@ -23,7 +23,8 @@ use file_rows::{Change, Content};
 use notify_list::{Iccid, Note, Operation};
 use port_table::PortMode;
 
-fn fewest_ports(mode: PortMode) -> u8
+/// The smallest number of ports that a card of this mode has.
+pub fn fewest_ports(mode: PortMode) -> u8
     ensures { result ≡ fewest_ports mode }
 {
     match mode {
