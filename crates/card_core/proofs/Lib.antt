@@ -21,11 +21,13 @@ pub mod NeighbourLemmas
 pub mod NicknameLemmas
 pub mod OutcomeLemmas
 pub mod PortLemmas
+pub mod RankLemmas
 pub mod RequestLemmas
 pub mod ResetLemmas
 pub mod RunLemmas
 pub mod SeenLemmas
 pub mod SoFarLemmas
+pub mod SortLemmas
 pub mod SoundLemmas
 pub mod SoundLoadLemmas
 pub mod StayLemmas

@@ -22,7 +22,7 @@ use Rattle.card_core.proofs.CameLemmas.{state_with}
 use Rattle.card_core.proofs.OutcomeLemmas.{get_response-has}
 use Rattle.card_core.specs.Desk.{desk_outcome, exchange_at, with_exchange}
 use Rattle.card_core.specs.DeskOutcome.{DeskOutcome, desk_answer, desk_refusal}
-use Rattle.card_core.specs.Failed.{failed_command, failed_port, spoiled}
+use Rattle.card_core.specs.Failed.{FailsWith, failed_command, failed_port, spoiled}
 use Rattle.card_core.specs.GetResponse.{get_response}
 use Rattle.card_core.specs.IsdrCommand.{at_each, busy_of, came_at, is_shared_command, isdr_carried}
 use Rattle.card_core.specs.IsdrCommand.{isdr_made, kept_on, move_at, port_moved}
@@ -35,8 +35,8 @@ use Rattle.card_core.specs.PortState.{PortState, counted, reset_port}
 use Rattle.card_core.specs.Statements.{AnswersBytes, command_made}
 use Rattle.card_core.specs.StoreData.{store_data}
 use Rattle.card_core.specs.Stepped.{Happens}
-use Rattle.card_core.specs.Stretch.{IsUnshared, PortView, StaysAt, is_shared_at, resets_a_port}
-use Rattle.card_core.specs.Stretch.{view_at}
+use Rattle.card_core.specs.Stretch.{IsUnshared, PortView, StaysAt, is_for, is_shared_at}
+use Rattle.card_core.specs.Stretch.{resets_a_port, view_at}
 use Rattle.card_core.specs.World.{Made, WorldState, answered_alone, card_in, count_if, entry_at}
 use Rattle.card_core.specs.World.{port_in}
 use Rattle.card_core.specs.declared.desk.Desk.{Desk}
@@ -147,6 +147,11 @@ quiet desk c = by (nat_eq c.ins 0xC0)
         get_response-has IsQuiet (exchange_at desk c.channel) c (λ sw. refl) refl
     by false = refl
 
+-- a count that stays although one was added where it is so
+not_counted_by : (count : ℕ) (is_so : Bool) → count + count_if is_so ≡ count → is_so ≡ false
+not_counted_by count true same = absurd (omega (arith, same))
+not_counted_by count false same = refl
+
 -- ports of which none moves
 none_move : (came channel first : ℕ) (ports : List PortState)
     → at_each (λ number. port_moved (kept_on came channel number) (move_at [] number)) first ports
@@ -154,6 +159,15 @@ none_move : (came channel first : ℕ) (ports : List PortState)
 none_move came channel first [] = refl
 none_move came channel first (port ∷ ports) =
     ap (λ (its : List PortState). port ∷ its) (none_move came channel (first + 1) ports)
+
+-- the line of a statement of this number, at its own port
+abbrev pub IsOwnLine : ℕ → Line → Type 0
+IsOwnLine number (lines.Answered its answer cause) = its ≡ number
+IsOwnLine number (lines.OwnReset its) = its ≡ number
+IsOwnLine number (lines.Loaded its outcome) = its ≡ number
+IsOwnLine number (lines.ForeignReset maker) = ⊥
+IsOwnLine number (lines.Unbound profile refresh kept maker commit) = ⊥
+IsOwnLine number (lines.Bound profile refresh kept maker commit) = ⊥
 
 module _ (port : ℕ) where
   -- a statement made of a card what one makes of that port, and of any card that shows it the same
@@ -164,6 +178,7 @@ module _ (port : ℕ) where
     pub again : (other : WorldState) → view_at other port ≡ view_at state port
         → Happens failed other event (local_made other port its)
     pub fits : IfSome its.change (Fits (content_on state.durable port))
+    pub own : IsOwnLine ((port_in state port).statements + 1) its.line
 
   build : (state : WorldState) (event : Event) (failed : Bool) (made : Made)
       (make : PortView → LocalMade) (May : PortView → Type 0)
@@ -171,14 +186,16 @@ module _ (port : ℕ) where
       → Happens failed one event (local_made one port (make (view_at one port))))
       → May (view_at state port) → made ≡ local_made state port (make (view_at state port))
       → IfSome (make (view_at state port)).change (Fits (content_on state.durable port))
+      → IsOwnLine ((port_in state port).statements + 1) (make (view_at state port)).line
       → IsLocal state event failed made
-  build state event failed made make May happens may is fits = record {
+  build state event failed made make May happens may is fits own = record {
     its = make (view_at state port);
     is = is;
     again = λ other same.
         subst (λ (view : PortView). Happens failed other event (local_made other port (make view)))
         same (happens other (subst May (sym same) may));
     fits = fits;
+    own = own;
   }
 
   -- bytes that spell no command
@@ -190,7 +207,7 @@ module _ (port : ℕ) where
       build state (events.Apdu port bytes) false made
       (λ view. answered_local view (counted view.port) (status_alone (refusal bytes)) None)
       (λ view. Unit {0})
-      (λ one may. inr (none, same_commits one _ _)) tt (is ∙ sym (same_commits state _ _)) tt
+      (λ one may. inr (none, same_commits one _ _)) tt (is ∙ sym (same_commits state _ _)) tt refl
 
   -- one that the card of the port answers
   own_is_local : (state : WorldState) (bytes : List ℕ) (c : Apdu) (made : Made)
@@ -207,7 +224,7 @@ module _ (port : ℕ) where
             (cond (nat_eq c.ins 0x7A) (lsi_made one port c) (isdr_made one port c))
             (own_made one port c)) (sym may),
       )) own is
-      (MayFollow-decision (card_in state port) sound c).change
+      (MayFollow-decision (card_in state port) sound c).change refl
 
   -- MANAGE LSI that resets no port
   module _ (bytes : List ℕ) (c : Apdu) (spelled : Spells bytes c)
@@ -242,6 +259,7 @@ module _ (port : ℕ) where
         )) may
         (is ∙ sym (lsi_is state (lsi_of c state.durable.heads.ports.count) may.1))
         (none_changes (lsi_of c state.durable.heads.ports.count))
+        (own_line (lsi_of c state.durable.heads.ports.count))
       where
         none_changes : (asked : Result Lsi Sw)
             → IfSome (lsi_local (view_at state port) asked).change
@@ -249,6 +267,13 @@ module _ (port : ℕ) where
         none_changes (Ok lsi.Count) = tt
         none_changes (Ok (lsi.Reset other)) = tt
         none_changes (Err sw) = tt
+
+        own_line : (asked : Result Lsi Sw)
+            → IsOwnLine ((port_in state port).statements + 1)
+            (lsi_local (view_at state port) asked).line
+        own_line (Ok lsi.Count) = refl
+        own_line (Ok (lsi.Reset other)) = refl
+        own_line (Err sw) = refl
 
   -- GET RESPONSE on a channel with the ISD-R
   module _ (bytes : List ℕ) (c : Apdu) (spelled : Spells bytes c)
@@ -300,7 +325,7 @@ module _ (port : ℕ) where
         build state (events.Apdu port bytes) false made (isdr_local c)
         (λ view. is_common view.port.session c ≡ true)
         (λ one may. inl (c, spelled, isdr_is one ∙ isdr_command_is one may)) common
-        (is ∙ sym (isdr_is state)) tt
+        (is ∙ sym (isdr_is state)) tt refl
 
   -- a command that isn't shared
   module _ (state : WorldState) (sound : IsSound (card_in state port)) where
@@ -325,6 +350,28 @@ module _ (port : ℕ) where
             isdr_is_local bytes c spelled is_lsi store state made common is
         by false is_lsi is_store own test store none is =
             own_is_local state bytes c made sound spelled own is
+
+    -- the count of shared statements rises with a shared command
+    lsi_counts : (asked : Result Lsi Sw)
+        → (lsi_asked_for state port asked).state.shared
+        ≡ state.shared + count_if (resets_a_port asked)
+    lsi_counts (Ok lsi.Count) = omega arith
+    lsi_counts (Ok (lsi.Reset other)) = omega arith
+    lsi_counts (Err sw) = omega arith
+
+    command_counts : (c : Apdu)
+        → (command_made state port c).state.shared
+        ≡ state.shared + count_if (is_shared_at (view_at state port) c)
+    command_counts c = by (is_common (port_in state port).session c) (nat_eq c.ins 0x7A)
+      where
+        by : (common is_lsi : Bool) → (cond common
+            (cond is_lsi (lsi_made state port c) (isdr_made state port c))
+            (own_made state port c)).state.shared
+            ≡ state.shared + count_if (common && cond is_lsi
+            (resets_a_port (lsi_of c state.durable.heads.ports.count)) (is_shared_command c))
+        by true true = lsi_counts (lsi_of c state.durable.heads.ports.count)
+        by true false = refl
+        by false is_lsi = omega arith
 
     bytes_local : (bytes : List ℕ) (made : Made)
         → ((c : Apdu) → Spells bytes c → is_shared_at (view_at state port) c ≡ false)
@@ -373,16 +420,15 @@ module _ (port : ℕ) where
         }) (shared ∙ ap (λ (its : Bool). one.shared + count_if its) (sym none))
 
     failed_local : (bytes : List ℕ) (c : Apdu) (answer : Answer) (cause : Option Cause)
-        (made : Made) → Spells bytes c → is_shared_at (view_at state port) c ≡ false
+        (made : Made) → Spells bytes c → Counts (view_at state port) c ≡ false
         → made ≡ failed_command state port c answer cause
         → IsLocal state (events.Apdu port bytes) true made
-    failed_local bytes c answer cause made spelled unshared is =
+    failed_local bytes c answer cause made spelled uncounted is =
         build state (events.Apdu port bytes) true made
         (λ view. answered_local view (failed_port view.port c) answer cause)
         (λ view. Counts view c ≡ false)
         (λ one may. (c, answer, cause, spelled, failed_is one c answer cause may))
-        (not_counted c unshared)
-        (is ∙ sym (failed_is state c answer cause (not_counted c unshared))) tt
+        uncounted (is ∙ sym (failed_is state c answer cause uncounted)) tt refl
 
     -- the steps of a load but its end
     load_local_is : (step : LoadStep) (failed : Bool) (made : Made) → IsUnshared step
@@ -392,24 +438,24 @@ module _ (port : ℕ) where
         build state (events.Load port (steps.Begin metadata)) false made
         (λ view. load_local view (load_begun view.port.load (metadata_of metadata)))
         (λ view. Unit {0}) (λ one may. same_commits one _ _) tt (is ∙ sym (same_commits state _ _))
-        tt
+        tt refl
     load_local_is (steps.Piece piece) false made unshared is =
         build state (events.Load port (steps.Piece piece)) false made
         (λ view. load_local view (piece_taken view.port.load piece)) (λ view. Unit {0})
-        (λ one may. same_commits one _ _) tt (is ∙ sym (same_commits state _ _)) tt
+        (λ one may. same_commits one _ _) tt (is ∙ sym (same_commits state _ _)) tt refl
     load_local_is steps.End false made unshared is = absurd unshared
     load_local_is (steps.Begin metadata) true made unshared is =
         build state (events.Load port (steps.Begin metadata)) true made
         (λ view. load_local view (record { load = view.port.load; outcome = Memory }))
         (λ view. Unit {0}) (λ one may. same_commits one _ _) tt (is ∙ sym (same_commits state _ _))
-        tt
+        tt refl
     load_local_is (steps.Piece piece) true made unshared is =
         build state (events.Load port (steps.Piece piece)) true made
         (λ view. load_local view (record {
           load = option_map spoiled view.port.load;
           outcome = Memory;
         })) (λ view. Unit {0}) (λ one may. same_commits one _ _) tt
-        (is ∙ sym (same_commits state _ _)) tt
+        (is ∙ sym (same_commits state _ _)) tt refl
     load_local_is steps.End true made unshared is = absurd unshared
 
     reset_local : (made : Made) → made ≡ reset_made state port
@@ -420,9 +466,65 @@ module _ (port : ℕ) where
           change = None;
           line = lines.OwnReset (number_in view);
         }) (λ view. Unit {0}) (λ one may. same_commits one _ _) tt
-        (is ∙ sym (same_commits state _ _)) tt
+        (is ∙ sym (same_commits state _ _)) tt refl
 
-    -- a statement that stays at its port is such a one
+    -- a statement with which the count of shared statements stays is such a one
+    counted_bytes_local : (bytes : List ℕ) (made : Made) → AnswersBytes state port bytes made
+        → made.state.shared ≡ state.shared → IsLocal state (events.Apdu port bytes) false made
+    counted_bytes_local bytes made (inl spelled) stays =
+        command_is_local bytes spelled.0 made spelled.1
+        (not_counted_by state.shared (is_shared_at (view_at state port) spelled.0)
+        (sym (command_counts spelled.0) ∙ ap (λ (its : Made). its.state.shared) (sym spelled.2)
+        ∙ stays)) spelled.2
+    counted_bytes_local bytes made (inr none) stays = unspelled_local state bytes made none.0 none.1
+
+    counted_failed_local : (bytes : List ℕ) (made : Made)
+        → FailsWith state (events.Apdu port bytes) made → made.state.shared ≡ state.shared
+        → IsLocal state (events.Apdu port bytes) true made
+    counted_failed_local bytes made is stays =
+        failed_local bytes is.0 is.1 is.2 made is.3
+        (not_counted_by state.shared (Counts (view_at state port) is.0)
+        (ap (λ (its : Made). its.state.shared) (sym is.4) ∙ stays)) is.4
+
+    counted_step_local : (step : LoadStep) (failed : Bool) (made : Made)
+        → Happens failed state (events.Load port step) made → made.state.shared ≡ state.shared
+        → IsLocal state (events.Load port step) failed made
+    counted_step_local (steps.Begin metadata) failed made is stays =
+        load_local_is (steps.Begin metadata) failed made tt is
+    counted_step_local (steps.Piece piece) failed made is stays =
+        load_local_is (steps.Piece piece) failed made tt is
+    counted_step_local steps.End false made is stays =
+        let raised : made.state.shared ≡ state.shared + 1 =
+        ap (λ (its : Made). its.state.shared) is.2 in
+        absurd (omega (arith, raised, stays))
+    counted_step_local steps.End true made is stays =
+        let raised : made.state.shared ≡ state.shared + 1 =
+        ap (λ (its : Made). its.state.shared) is.1 in
+        absurd (omega (arith, raised, stays))
+
+    pub counted_local : (failed : Bool) (event : Event) (made : Made)
+        → is_for port event ≡ true → Happens failed state event made
+        → made.state.shared ≡ state.shared → IsLocal state event failed made
+    counted_local false (events.Apdu came bytes) made comes =
+        subst (λ (n : ℕ). Happens false state (events.Apdu n bytes) made
+        → made.state.shared ≡ state.shared → IsLocal state (events.Apdu n bytes) false made)
+        (sym (eqb-true came port comes)) (counted_bytes_local bytes made)
+    counted_local true (events.Apdu came bytes) made comes =
+        subst (λ (n : ℕ). Happens true state (events.Apdu n bytes) made
+        → made.state.shared ≡ state.shared → IsLocal state (events.Apdu n bytes) true made)
+        (sym (eqb-true came port comes)) (counted_failed_local bytes made)
+    counted_local false (events.Reset came) made comes =
+        subst (λ (n : ℕ). Happens false state (events.Reset n) made
+        → made.state.shared ≡ state.shared → IsLocal state (events.Reset n) false made)
+        (sym (eqb-true came port comes)) (λ is stays. reset_local made is)
+    counted_local true (events.Reset came) made comes = λ is. absurd is
+    counted_local failed (events.Load came step) made comes =
+        subst (λ (n : ℕ). Happens failed state (events.Load n step) made
+        → made.state.shared ≡ state.shared → IsLocal state (events.Load n step) failed made)
+        (sym (eqb-true came port comes)) (counted_step_local step failed made)
+    counted_local failed events.Power made comes = absurd cc
+
+    -- and so is one that stays at its port
     pub stays_local : (failed : Bool) (event : Event) (made : Made)
         → StaysAt port (view_at state port) event → Happens failed state event made
         → IsLocal state event failed made
@@ -441,6 +543,7 @@ module _ (port : ℕ) where
     stays_local true (events.Apdu came bytes) made stays =
         subst (λ (n : ℕ). Happens true state (events.Apdu n bytes) made
         → IsLocal state (events.Apdu n bytes) true made) (sym stays.0)
-        (λ is. failed_local bytes is.0 is.1 is.2 made is.3 (stays.1 is.0 is.3) is.4)
+        (λ is. failed_local bytes is.0 is.1 is.2 made is.3
+        (not_counted is.0 (stays.1 is.0 is.3)) is.4)
     stays_local true (events.Reset came) made stays = λ is. absurd is
     stays_local true events.Power made stays = absurd stays

@@ -14,7 +14,8 @@ use Rattle.record_codec.specs.declared.durable.Heads.{Heads}
 use Rattle.record_codec.specs.declared.profile.ProfileHead.{ProfileHead}
 use Rattle.card_core.proofs.AloneLemmas.{one_port}
 use Rattle.card_core.proofs.CameLemmas.{state_with}
-use Rattle.card_core.proofs.LocalLemmas.{IsLocal, LocalMade, local_made, stays_local}
+use Rattle.card_core.proofs.LocalLemmas.{IsLocal, IsOwnLine, LocalMade, counted_local, local_made}
+use Rattle.card_core.proofs.LocalLemmas.{stays_local}
 use Rattle.card_core.proofs.SoundLemmas.{sound_card}
 use Rattle.card_core.proofs.StayLemmas.{heads_by}
 use Rattle.card_core.proofs.StretchLemmas.{local_stays}
@@ -23,7 +24,7 @@ use Rattle.card_core.specs.Port.{content_on, profile_on, with_change_of}
 use Rattle.card_core.specs.PortState.{PortState}
 use Rattle.card_core.specs.Sound.{IsSoundState}
 use Rattle.card_core.specs.Stepped.{Happens}
-use Rattle.card_core.specs.Stretch.{ChangePlaces, IsMadeAt, PortView, StaysAt, view_at}
+use Rattle.card_core.specs.Stretch.{ChangePlaces, IsMadeAt, PortView, StaysAt, is_for, view_at}
 use Rattle.card_core.specs.World.{Made, WorldState, card_in, count_if, port_in}
 use Rattle.card_core.specs.declared.event.Event.{Event}
 
@@ -156,12 +157,7 @@ view_elsewhere state port other made apart at =
 
 module _ (state : WorldState) (sound : IsSoundState state) (port other : ℕ) (apart : port ≢ other)
     (event another : Event) (failed fails : Bool) (one two : Made)
-    (stays : StaysAt port (view_at state port) event) (happens : Happens failed state event one)
-    (then_stays : StaysAt other (view_at one.state other) another)
-    (then_happens : Happens fails one.state another two) where
-  here : IsLocal port state event failed one
-  here = stays_local port state (sound_card state sound port) failed event one stays happens
-
+    (here : IsLocal port state event failed one) where
   view_same : view_at one.state other ≡ view_at state other
   view_same =
       view_elsewhere state port other one (λ same. apart (sym same))
@@ -176,46 +172,60 @@ module _ (state : WorldState) (sound : IsSoundState state) (port other : ℕ) (a
         port = Some other;
       })) (sym view_same) (sound_card state sound other)
 
-  there : IsLocal other one.state another fails two
-  there = stays_local other one.state sound_there fails another two then_stays then_happens
+  module _ (there : IsLocal other one.state another fails two) where
+    abbrev earlier : Made
+    earlier = local_made state other there.its
 
-  abbrev earlier : Made
-  earlier = local_made state other there.its
+    abbrev later : Made
+    later = local_made earlier.state port here.its
 
-  abbrev later : Made
-  later = local_made earlier.state port here.its
+    earlier_happens : Happens fails state another earlier
+    earlier_happens = there.again state (sym view_same)
 
-  earlier_happens : Happens fails state another earlier
-  earlier_happens = there.again state (sym view_same)
+    earlier_at : IsMadeAt other state earlier
+    earlier_at =
+        local_stays other state sound another fails earlier (record {
+          its = there.its;
+          is = refl;
+          again = λ one_more same. there.again one_more (same ∙ sym view_same);
+          fits = subst (λ (view : PortView). IfSome there.its.change (Fits view.content)) view_same
+              there.fits;
+          own = subst (λ (view : PortView). IsOwnLine (view.port.statements + 1) there.its.line)
+              view_same there.own;
+        })
 
-  earlier_at : IsMadeAt other state earlier
-  earlier_at =
-      local_stays other state sound another fails earlier (record {
-        its = there.its;
-        is = refl;
-        again = λ one_more same. there.again one_more (same ∙ sym view_same);
-        fits = subst (λ (view : PortView). IfSome there.its.change (Fits view.content)) view_same
-            there.fits;
-      })
+    later_happens : Happens failed earlier.state event later
+    later_happens =
+        here.again earlier.state (view_elsewhere state other port earlier apart earlier_at)
 
-  later_happens : Happens failed earlier.state event later
-  later_happens =
-      here.again earlier.state (view_elsewhere state other port earlier apart earlier_at)
+    -- two neighbours that stay at different ports may change places
+    pub places_change : ChangePlaces state event another failed fails one two
+    places_change = record {
+      first = earlier;
+      second = later;
+      first_happens = earlier_happens;
+      second_happens = later_happens;
+      state = sym (states_commute state sound.are port other apart here.its there.its)
+          ∙ ap (λ (made : Made). (local_made made.state other there.its).state) (sym here.is)
+          ∙ ap (λ (made : Made). made.state) (sym there.is);
+      first_lines = ap (λ (view : PortView). record {
+        turn = view.turn;
+        port = other;
+        line = there.its.line;
+      } ∷ []) (sym view_same) ∙ ap (λ (made : Made). made.entries) (sym there.is);
+      second_lines = ap (λ (made : Made). made.entries) (sym here.is);
+    }
 
-  -- two neighbours that stay at different ports may change places
-  pub places_change : ChangePlaces state event another failed fails one two
-  places_change = record {
-    first = earlier;
-    second = later;
-    first_happens = earlier_happens;
-    second_happens = later_happens;
-    state = sym (states_commute state sound.are port other apart here.its there.its)
-        ∙ ap (λ (made : Made). (local_made made.state other there.its).state) (sym here.is)
-        ∙ ap (λ (made : Made). made.state) (sym there.is);
-    first_lines = ap (λ (view : PortView). record {
-      turn = view.turn;
-      port = other;
-      line = there.its.line;
-    } ∷ []) (sym view_same) ∙ ap (λ (made : Made). made.entries) (sym there.is);
-    second_lines = ap (λ (made : Made). made.entries) (sym here.is);
-  }
+  pub places_change_staying : StaysAt other (view_at one.state other) another
+      → Happens fails one.state another two
+      → ChangePlaces state event another failed fails one two
+  places_change_staying then_stays then_happens =
+      places_change
+      (stays_local other one.state sound_there fails another two then_stays then_happens)
+
+  pub places_change_counted : is_for other another ≡ true → Happens fails one.state another two
+      → two.state.shared ≡ one.state.shared
+      → ChangePlaces state event another failed fails one two
+  places_change_counted comes happens same =
+      places_change
+      (counted_local other one.state sound_there fails another two comes happens same)

@@ -1,8 +1,9 @@
 -- What a statement that isn't shared leaves, and what it makes of other cards.
-use Rattle.std.proofs.Common.{◌≡◌, ◌<◌, ℕ, Bool, [], ◌∷◌, length, refl, sym}
-use Rattle.std.proofs.Common.{◌∙◌, ap, subst}
-use Rattle.std.specs.Prelude.{IfSome}
+use Rattle.std.proofs.Common.{◌≡◌, ◌<◌, ◌+◌, ℕ, Bool, false, [], ◌∷◌, length, Option, Some, None}
+use Rattle.std.proofs.Common.{refl, sym, ◌∙◌, ap, subst, arith, inl, inr}
+use Rattle.std.specs.Prelude.{IfSome, is_some}
 use Rattle.file_rows.specs.Change.{Fits}
+use Rattle.file_rows.specs.declared.change.Change.{Change}
 use Rattle.file_rows.specs.declared.content.Content.{Content}
 use Rattle.record_codec.specs.declared.durable.Durable.{Durable}
 use Rattle.record_codec.specs.declared.durable.Heads.{Heads}
@@ -15,8 +16,8 @@ use Rattle.card_core.specs.Port.{content_on}
 use Rattle.card_core.specs.PortState.{PortState}
 use Rattle.card_core.specs.Sound.{IsSoundState}
 use Rattle.card_core.specs.Stepped.{Happens}
-use Rattle.card_core.specs.Stretch.{IsMadeAt, PortView, view_at}
-use Rattle.card_core.specs.World.{Made, WorldState}
+use Rattle.card_core.specs.Stretch.{CountAsMany, CountsItsRecord, IsMadeAt, PortView, view_at}
+use Rattle.card_core.specs.World.{Made, WorldState, count_if}
 use Rattle.card_core.specs.declared.event.Event.{Event}
 
 -- what is seen of the port afterwards
@@ -53,6 +54,17 @@ module _ (port : ℕ) where
       after : Durable
       after = changed_where state.durable port its.change
 
+  counts_record : (state : WorldState) (its : LocalMade) (change : Option Change)
+      → its.change ≡ change → CountsItsRecord state (local_made state port its)
+  counts_record state its None is =
+      let none : state.commits + count_if false ≡ state.commits = omega arith in
+      inl (
+        ap (λ (one : Option Change). state.commits + count_if (is_some one)) is ∙ none,
+        ap (changed_where state.durable port) is,
+      )
+  counts_record state its (Some change) is =
+      inr (ap (λ (one : Option Change). state.commits + count_if (is_some one)) is)
+
   module _ (state : WorldState) (sound : IsSoundState state) (event : Event) (failed : Bool)
       (made : Made) (local : IsLocal port state event failed made) where
     -- it leaves all but its own port
@@ -67,6 +79,7 @@ module _ (port : ℕ) where
           held = λ profile apart.
               held_elsewhere state.durable sound.are port local.its.change profile apart;
           shared = refl;
+          commits = counts_record state local.its local.its.change refl;
         })
 
     module _ (other : WorldState) (below : port < length state.ports)
@@ -97,5 +110,15 @@ module _ (port : ℕ) where
       -- and it makes the same of another card that shows its port the same
       pub local_again : (its : Made) × Happens failed other event its
           × (its.entries ≡ made.entries) × (view_at its.state port ≡ view_at made.state port)
-      local_again =
-          (local_made other port local.its, local.again other same, entries_again, view_again)
+          × CountAsMany state made other its
+      local_again = (
+        local_made other port local.its,
+        local.again other same,
+        entries_again,
+        view_again,
+        (
+          count_if (is_some local.its.change),
+          ap (λ (one : Made). one.state.commits) local.is,
+          refl,
+        ),
+      )

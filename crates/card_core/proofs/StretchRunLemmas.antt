@@ -20,7 +20,7 @@ use Rattle.card_core.specs.Sound.{IsSoundState}
 use Rattle.card_core.specs.Stepped.{AreSteps, Stepped}
 use Rattle.card_core.specs.Stretch.{IsMadeAt, IsOfStretch, LeavesCard, PortView, RunsByItself}
 use Rattle.card_core.specs.Stretch.{StaysAt}
-use Rattle.card_core.specs.Stretch.{entries_of, is_for, lines_at, view_at}
+use Rattle.card_core.specs.Stretch.{entries_of, is_for, lines_at, steps_at, view_at, which_failed}
 use Rattle.card_core.specs.World.{Made, WorldState}
 use Rattle.card_core.specs.declared.entry.Entry.{Entry}
 use Rattle.card_core.specs.declared.event.Event.{Event}
@@ -68,6 +68,7 @@ module _ (port : ℕ) where
           alone = [];
           last = other;
           are = (refl, refl);
+          failed = refl;
           lines = refl;
           view = same;
         },
@@ -183,6 +184,10 @@ module _ (port : ℕ) where
                   } ∷ rest.0.alone) rest.0.last)
                   (sym (comes_to port number (view_at start number) event stretch_now.0.1 ∙ is))
                   (are.0, its_made, rest.0.alone, own.again other same, rest.0.are, refl);
+              failed = ap (λ (its : List Bool). are.0 ∷ its) rest.0.failed
+                  ∙ ap (λ (its : Bool). which_failed
+                  (cond its (first_step ∷ steps_at port are.2) (steps_at port are.2)))
+                  (sym (comes_to port number (view_at start number) event stretch_now.0.1 ∙ is));
               lines = ap (λ (its : List Entry). its ++ entries_of rest.0.alone) own_lines
                   ∙ ap (λ (its : List Entry). lines_at port done.entries ++ its) rest.0.lines
                   ∙ sym (lines_are (entries_of are.2));
@@ -212,6 +217,9 @@ module _ (port : ℕ) where
                   rest.0.alone rest.0.last)
                   (sym (comes_to port number (view_at start number) event stretch_now.0.1 ∙ is))
                   rest.0.are;
+              failed = rest.0.failed ∙ ap (λ (its : Bool). which_failed
+                  (cond its (first_step ∷ steps_at port are.2) (steps_at port are.2)))
+                  (sym (comes_to port number (view_at start number) event stretch_now.0.1 ∙ is));
               lines = rest.0.lines
                   ∙ sym (ap (λ (its : List Entry). its ++ lines_at port (entries_of are.2))
                   (none_there port number done.entries elsewhere at.entries))

@@ -1,6 +1,6 @@
 -- Statements that stay at their port, and stretches of them.
-use Rattle.std.specs.Prelude.{ℕ, ◌≡◌, ◌≢◌, ◌==◌, ◌&&◌, Bool, true, false, if◌then◌else◌, ⊤, List}
-use Rattle.std.specs.Prelude.{filter, Some, Result, Ok, Err}
+use Rattle.std.specs.Prelude.{ℕ, ◌≡◌, ◌≢◌, ◌⊎◌, ◌+◌, ◌==◌, ◌&&◌, Bool, true, false, if◌then◌else◌, ⊤}
+use Rattle.std.specs.Prelude.{List, filter, map, Some, Result, Ok, Err}
 use Rattle.std.specs.List.{AllByRecursion, flat_map}
 use Rattle.apdu_codec.specs.Command.{Apdu, Spells}
 use Rattle.apdu_codec.specs.declared.status.Sw.{Sw}
@@ -66,6 +66,12 @@ StaysAt port view (Reset came) = came ≡ port
 StaysAt port view (Load came step) = (came ≡ port) × IsUnshared step
 StaysAt port view Power = ⊥
 
+-- a statement makes at most one record; without one, all that the card keeps is as it was
+abbrev pub CountsItsRecord : WorldState → Made → Type 0
+CountsItsRecord state made =
+    ((made.state.commits ≡ state.commits) × (made.state.durable ≡ state.durable))
+    ⊎ (made.state.commits ≡ state.commits + 1)
+
 -- what such a statement leaves: its lines are of its port; another port has what it had, with its
 -- content; and all that the card keeps stays but the content of the profile on the port
 pub record IsMadeAt (port : ℕ) (state : WorldState) (made : Made) : Type 0 where
@@ -78,6 +84,13 @@ pub record IsMadeAt (port : ℕ) (state : WorldState) (made : Made) : Type 0 whe
   pub held : (profile : ℕ) → profile_on state.durable port ≢ Some profile
       → held_content profile made.state.durable ≡ held_content profile state.durable
   pub shared : made.state.shared ≡ state.shared
+  pub commits : CountsItsRecord state made
+
+-- of two cards each counts as many records
+abbrev pub CountAsMany : WorldState → Made → WorldState → Made → Type 0
+CountAsMany state made other its =
+    (records : ℕ) × (made.state.commits ≡ state.commits + records)
+    × (its.state.commits ≡ other.commits + records)
 
 -- two statements one after another, in the other order: each makes the same lines, and both leave
 -- the same card, its counts included
@@ -105,17 +118,26 @@ IsOfStretch step = (port : ℕ) × StaysAt port (view_at step.before port) step.
 abbrev pub entries_of : List Stepped → List Entry
 entries_of steps = flat_map (λ step. step.made.entries) steps
 
+-- the steps of the statements that came to a port
+abbrev pub steps_at : ℕ → List Stepped → List Stepped
+steps_at port steps = filter (λ step. is_for port step.event) steps
+
+-- of each step, whether it failed
+abbrev pub which_failed : List Stepped → List Bool
+which_failed steps = map (λ step. step.failed) steps
+
 -- the lines of a log about a port
 abbrev pub lines_at : ℕ → List Entry → List Entry
 lines_at port entries = filter (λ entry. entry.port == port) entries
 
--- a stretch by itself: the port's own statements of it alone, from the same card, make the same
--- lines there and leave the same there
+-- a stretch by itself: the port's own statements of it alone, from the same card, of which the same
+-- ones fail, make the same lines there and leave the same there
 pub record RunsByItself (port : ℕ) (start : WorldState) (events : List Event)
     (steps : List Stepped) (after : WorldState) : Type 0 where
   pub alone : List Stepped
   pub last : WorldState
   pub are : AreSteps start (filter (is_for port) events) alone last
+  pub failed : which_failed alone ≡ which_failed (steps_at port steps)
   pub lines : entries_of alone ≡ lines_at port (entries_of steps)
   pub view : view_at last port ≡ view_at after port
 
