@@ -30,6 +30,7 @@ pub mod SoFarLemmas
 pub mod SortLemmas
 pub mod SoundLemmas
 pub mod SoundLoadLemmas
+pub mod StatementLemmas
 pub mod StayLemmas
 pub mod StepsLemmas
 pub mod StoodLemmas

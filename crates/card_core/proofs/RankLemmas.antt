@@ -52,6 +52,11 @@ pub each_weaker : {X : Type 0} (P Q : X → Type 0) → ((x : X) → P x → Q x
 each_weaker P Q weaker [] each = tt
 each_weaker P Q weaker (x ∷ xs) each = (weaker x each.0, each_weaker P Q weaker xs each.1)
 
+pub each_joined : {X : Type 0} (P : X → Type 0) (xs ys : List X) → AllByRecursion P xs
+    → AllByRecursion P ys → AllByRecursion P (xs ++ ys)
+each_joined P [] ys one other = other
+each_joined P (x ∷ xs) ys one other = (one.0, each_joined P xs ys one.1 other)
+
 module _ {X : Type 0} (key : X → ℕ) where
   abbrev pub of_number : ℕ → List X → List X
   of_number n xs = filter (λ x. nat_eq (key x) n) xs
@@ -187,3 +192,49 @@ sieved (rank ∷ ranks) xs order within =
     (within_further rank ranks n xs within)) (range_with_len 0 rank.below)
     ∙ by_number rank.of xs rank.below (in_first_order rank ranks xs order)
     (each_weaker (IsWithin (rank ∷ ranks)) (λ x. rank.of x < rank.below) (λ x its. its.0) xs within)
+
+-- two lists of which each is so, and each item of the one with each of the other
+pub each_two_append : {X : Type 0} (R : X → X → Type 0) (xs ys : List X) → EachTwo R xs
+    → EachTwo R ys → AllByRecursion (λ x. AllByRecursion (R x) ys) xs → EachTwo R (xs ++ ys)
+each_two_append R [] ys one other across = other
+each_two_append R (x ∷ xs) ys one other across = (
+  each_joined (R x) xs ys one.0 across.0,
+  each_two_append R xs ys one.1 other across.1,
+)
+
+-- what holds of each item that the items give
+pub each_given : {X Y : Type 0} (P : Y → Type 0) (f : X → List Y) (xs : List X)
+    → AllByRecursion (λ x. AllByRecursion P (f x)) xs → AllByRecursion P (flat_map f xs)
+each_given P f [] each = tt
+each_given P f (x ∷ xs) each =
+    each_joined P (f x) (flat_map f xs) each.0 (each_given P f xs each.1)
+
+module _ {X Y : Type 0} (R : Y → Y → Type 0) (S : X → X → Type 0) (Q : X → Y → Type 0)
+    (f : X → List Y)
+    (two : (x other : X) (y z : Y) → S x other → Q x y → Q other z → R y z) where
+  across : (x : X) (xs : List X) → AllByRecursion (S x) xs
+      → AllByRecursion (λ other. AllByRecursion (Q other) (f other)) xs → (ys : List Y)
+      → AllByRecursion (Q x) ys → AllByRecursion (λ y. AllByRecursion (R y) (flat_map f xs)) ys
+  across x xs so gives [] its = tt
+  across x xs so gives (y ∷ ys) its = (
+    each_given (R y) f xs (by xs so gives),
+    across x xs so gives ys its.1,
+  )
+    where
+      by : (others : List X) → AllByRecursion (S x) others
+          → AllByRecursion (λ other. AllByRecursion (Q other) (f other)) others
+          → AllByRecursion (λ other. AllByRecursion (R y) (f other)) others
+      by [] so gives = tt
+      by (other ∷ others) so gives = (
+        each_weaker (Q other) (R y) (λ z there. two x other y z so.0 its.0 there) (f other) gives.0,
+        by others so.1 gives.1,
+      )
+
+  -- items in an order give theirs in an order
+  pub each_two_given : (xs : List X) → EachTwo S xs
+      → AllByRecursion (λ x. AllByRecursion (Q x) (f x)) xs
+      → AllByRecursion (λ x. EachTwo R (f x)) xs → EachTwo R (flat_map f xs)
+  each_two_given [] so gives each = tt
+  each_two_given (x ∷ xs) so gives each =
+      each_two_append R (f x) (flat_map f xs) each.0 (each_two_given xs so.1 gives.1 each.1)
+      (across x xs so.0 gives.1 (f x) gives.0)

@@ -2,6 +2,7 @@ pub mod Carried
 pub mod Desk
 pub mod DeskOutcome
 pub mod Exchange
+pub mod Merge
 pub mod GetResponse
 pub mod Listing
 pub mod Port
