@@ -50,7 +50,7 @@ use Rattle.card_core.specs.declared.event.LoadStep.TheVariants as steps
 
 -- a card has its ports for good, and its next number only rises
 module _ (state : WorldState) (sound : IsSoundState state) where
-  record Keeps (made : Made) : Type 0 where
+  pub record Keeps (made : Made) : Type 0 where
     pub places : length made.state.ports ≡ length state.ports
     pub next : state.durable.heads.next_number ≤ made.state.durable.heads.next_number
 
@@ -139,7 +139,7 @@ module _ (state : WorldState) (sound : IsSoundState state) where
       subst Keeps (sym ends.1)
       (record { places = length-set state.ports port _; next = omega arith })
 
-  happens_keeps : (failed : Bool) (event : Event) (made : Made)
+  pub happens_keeps : (failed : Bool) (event : Event) (made : Made)
       → IsOnCard state.durable.heads.ports.count event → Happens failed state event made
       → Keeps made
   happens_keeps false (events.Apdu port bytes) made on is = bytes_keep port bytes made on is

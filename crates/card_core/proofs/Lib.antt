@@ -10,6 +10,7 @@ pub mod CardStepLemmas
 pub mod CarriedLemmas
 pub mod CommandLemmas
 pub mod EachLemmas
+pub mod FollowLemmas
 pub mod GivenLemmas
 pub mod InstalledLemmas
 pub mod KeptLemmas
@@ -26,6 +27,7 @@ pub mod RequestLemmas
 pub mod ResetLemmas
 pub mod RunLemmas
 pub mod SeenLemmas
+pub mod ShownLemmas
 pub mod SoFarLemmas
 pub mod SortLemmas
 pub mod SoundLemmas
