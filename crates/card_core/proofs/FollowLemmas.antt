@@ -1,18 +1,21 @@
 -- What follows what in a run: turns, the numbers of the statements at a port, and phases.
 use Rattle.std.proofs.Common.{◌≡◌, ◌⊎◌, ◌<◌, ◌≤◌, ◌+◌, ◌-◌, ℕ, Bool, true, false, cond, nat_eq, nat_le, List}
 use Rattle.std.proofs.Common.{[], ◌∷◌, ◌++◌, filter, length, map, refl, sym, ◌∙◌, ap, subst, arith, inl}
-use Rattle.std.proofs.Common.{inr, eqb-true, length-append}
+use Rattle.std.proofs.Common.{inr, eqb-true, Some, None, slice_index_or}
 use Rattle.std.proofs.lemmas.Bool.{eq-eqb, eqb-false, ne_eqb}
 use Rattle.std.specs.List.{AllByRecursion}
 use Rattle.plain_lists.specs.EachTwo.{EachTwo}
+use Rattle.card_core.proofs.AloneLemmas.{one_port}
+use Rattle.card_core.proofs.LocalLemmas.{IsLocal, IsOwnLine}
 use Rattle.card_core.proofs.RankLemmas.{AtMost, each_joined, each_two_append, each_weaker}
 use Rattle.card_core.proofs.ShownLemmas.{IsFit, IsGood, Runs, Shown, good_after, made_there, shown_of}
-use Rattle.card_core.proofs.ShownLemmas.{unshared_at}
+use Rattle.card_core.proofs.ShownLemmas.{local_there, unshared_at}
 use Rattle.card_core.proofs.StatementLemmas.{IsLineOf, IsStatementMade, its_port, own_first}
 use Rattle.card_core.specs.Merge.{ComeInPhases, ComesToPort, maker_of, phase_at}
 use Rattle.card_core.specs.Stretch.{is_for}
 use Rattle.card_core.specs.World.{Made, WorldState, count_if, port_in}
 use Rattle.card_core.specs.declared.entry.Entry.{Entry}
+use Rattle.card_core.specs.declared.entry.Line.{Line}
 use Rattle.card_core.specs.declared.entry.Maker.{Maker}
 use Rattle.card_core.specs.declared.event.Event.{Event}
 use Rattle.card_core.specs.declared.event.Event.TheVariants as events
@@ -30,24 +33,35 @@ pub record IsItemLine (count : ℕ) (item : Shown) (entry : Entry) : Type 0 wher
   pub maker : maker_of entry ≡ its_maker item
   pub within : entry.port < count
 
--- the lines of an item are its own, in order; without a shared statement they are of its port
+-- it has one line, which is its own
+pub record HasOneLine (item : Shown) : Type 0 where
+  pub line : Line
+  pub are : item.entries
+      ≡ record { turn = item.turn; port = its_port item.event; line = line } ∷ []
+  pub own : IsOwnLine (number_of item) line
+
+-- the lines of an item are its own, in order; where no shared statement made it it has one. No
+-- profile stands on two ports
 pub record IsTold (count : ℕ) (item : Shown) : Type 0 where
   pub lines : AllByRecursion (IsItemLine count item) item.entries
   pub order : EachTwo (AtMost (own_first (its_port item.event))) item.entries
-  pub shared : ((item.next ≡ item.turn)
-      × AllByRecursion (λ entry. entry.port ≡ its_port item.event) item.entries)
-      ⊎ (item.next ≡ item.turn + 1)
+  pub shared : ((item.next ≡ item.turn) × HasOneLine item) ⊎ (item.next ≡ item.turn + 1)
+  pub once : (profile one other : ℕ)
+      → slice_index_or item.heads.ports.on one None ≡ Some profile
+      → slice_index_or item.heads.ports.on other None ≡ Some profile → one ≡ other
 
 -- an item that a card comes to
 pub record IsBehind (state : WorldState) (item : Shown) : Type 0 where
   pub turn : state.shared ≤ item.turn
   pub number : (port_in state (its_port item.event)).statements ≤ item.here.statements
+  pub heads : item.turn ≡ state.shared → item.heads ≡ state.durable.heads
 
 -- an item behind another
 pub record Follows (one other : Shown) : Type 0 where
   pub turn : one.next ≤ other.turn
   pub number : its_port one.event ≡ its_port other.event
       → one.here.statements < other.here.statements
+  pub heads : one.next ≡ one.turn → other.turn ≡ one.turn → other.heads ≡ one.heads
 
 eq_swapped : (a b : ℕ) → nat_eq a b ≡ nat_eq b a
 eq_swapped a b = by (nat_eq b a) refl
@@ -65,8 +79,7 @@ comes_by port events.Power comes = absurd comes
 
 one_told : (count : ℕ) (state : WorldState) (event : Event) (failed : Bool) (made : Made)
     → IsGood count state → IsStatementMade (its_port event) state made
-    → (made.state.shared ≡ state.shared
-    → AllByRecursion (λ entry. entry.port ≡ its_port event) made.entries)
+    → (made.state.shared ≡ state.shared → IsLocal (its_port event) state event failed made)
     → IsTold count (shown_of state event failed made)
 one_told count state event failed made good its own = record {
   lines = each_weaker (IsLineOf (its_port event) state)
@@ -80,9 +93,14 @@ one_told count state event failed made good its own = record {
       }) made.entries its.lines;
   order = its.order;
   shared = elim its.shared [
-    | inl same ↦ inl (same, own same)
+    | inl same ↦ inl (same, record {
+        line = (own same).its.line;
+        are = ap (λ (one : Made). one.entries) (own same).is;
+        own = (own same).own;
+      })
     | inr more ↦ inr more
   ];
+  once = one_port state.durable good.sound.are;
 }
 
 module _ (count : ℕ) where
@@ -104,8 +122,16 @@ module _ (count : ℕ) where
     pub next_is : item.next ≡ made_of.state.shared
     next_is = ap (λ (its : Shown). its.next) runs.2
 
+    pub heads_are : item.heads ≡ state.durable.heads
+    heads_are = ap (λ (its : Shown). its.heads) runs.2
+
     pub here_is : item.here.statements ≡ (port_in state (its_port item.event)).statements
     here_is = ap (λ (its : Shown). its.here.statements) runs.2
+
+    -- the heads stay where the count of shared statements does
+    pub heads_stay : made_of.state.shared ≡ state.shared
+        → made_of.state.durable.heads ≡ state.durable.heads
+    heads_stay same = (unshared_at count state item made_of good fit runs.1 same).heads
 
     pub shared_more : state.shared ≤ made_of.state.shared
     shared_more = elim is_made.shared [
@@ -113,7 +139,7 @@ module _ (count : ℕ) where
       | inr more ↦ omega (arith, more)
     ]
 
-  behind : (items : List Shown) (state after : WorldState) → IsGood count state
+  pub behind : (items : List Shown) (state after : WorldState) → IsGood count state
       → AllByRecursion (IsFit count) items → Runs state items after
       → AllByRecursion (IsBehind state) items
   behind [] state after good fit runs = tt
@@ -123,6 +149,7 @@ module _ (count : ℕ) where
           turn_is state item items after good fit.0 runs in omega (arith, is);
       number = let is : item.here.statements ≡ (port_in state (its_port item.event)).statements =
           here_is state item items after good fit.0 runs in omega (arith, is);
+      heads = λ same. heads_are state item items after good fit.0 runs;
     },
     each_weaker (IsBehind runs.0.state) (IsBehind state)
     (λ one its. record {
@@ -135,6 +162,13 @@ module _ (count : ℕ) where
           (is_made state item items after good fit.0 runs).counts (its_port one.event) in
           let rest : (port_in runs.0.state (its_port one.event)).statements
           ≤ one.here.statements = its.number in omega (arith, counts, rest);
+      heads = λ same.
+          let more : state.shared ≤ runs.0.state.shared =
+          shared_more state item items after good fit.0 runs in
+          let rest : runs.0.state.shared ≤ one.turn = its.turn in
+          let stays : runs.0.state.shared ≡ state.shared = omega (arith, more, rest, same) in
+          its.heads (same ∙ sym stays)
+          ∙ heads_stay state item items after good fit.0 runs stays;
     }) items
     (behind items runs.0.state after (then_good state item items after good fit.0 runs) fit.1
     runs.3),
@@ -162,6 +196,16 @@ module _ (count : ℕ) where
           ∙ ap (λ (n : ℕ). (port_in state n).statements) same in
           let rest : (port_in runs.0.state (its_port one.event)).statements
           ≤ one.here.statements = its.number in omega (arith, counts, once, is, rest);
+      heads = λ unshared same.
+          let before : item.turn ≡ state.shared =
+          turn_is state item items after good fit.0 runs in
+          let then : item.next ≡ runs.0.state.shared =
+          next_is state item items after good fit.0 runs in
+          let stays : runs.0.state.shared ≡ state.shared =
+          omega (arith, before, then, unshared) in
+          its.heads (same ∙ before ∙ sym stays)
+          ∙ heads_stay state item items after good fit.0 runs stays
+          ∙ sym (heads_are state item items after good fit.0 runs);
     }) items
     (behind items runs.0.state after now fit.1 runs.3),
     follow items runs.0.state after now fit.1 runs.3,
@@ -178,8 +222,8 @@ module _ (count : ℕ) where
   told (item ∷ items) state after good fit runs = (
     subst (IsTold count) (sym runs.2)
     (one_told count state item.event item.failed runs.0 good
-    (is_made state item items after good fit.0 runs) (λ same.
-    (unshared_at count state item runs.0 good fit.0 runs.1 same).entries)),
+    (is_made state item items after good fit.0 runs) 
+    (local_there count state item runs.0 good fit.0 runs.1)),
     told items runs.0.state after (then_good state item items after good fit.0 runs) fit.1 runs.3,
   )
 
@@ -257,7 +301,7 @@ pub record InParts {X Y : Type 0} (see : X → Y) (xs : List X) (first rest : Li
   pub first_seen : map see front ≡ first
   pub rest_seen : map see back ≡ rest
 
-parts : {X Y : Type 0} (see : X → Y) (first rest : List Y) (xs : List X)
+pub parts : {X Y : Type 0} (see : X → Y) (first rest : List Y) (xs : List X)
     → map see xs ≡ first ++ rest → InParts see xs first rest
 parts see [] rest xs is =
     record { front = []; back = xs; are = refl; first_seen = refl; rest_seen = is }
@@ -281,7 +325,7 @@ pub record RunsInParts (state : WorldState) (front back : List Shown) (after : W
   pub first : Runs state front between
   pub rest : Runs between back after
 
-run_parts : (front back : List Shown) (state after : WorldState) → Runs state (front ++ back) after
+pub run_parts : (front back : List Shown) (state after : WorldState) → Runs state (front ++ back) after
     → RunsInParts state front back after
 run_parts [] back state after runs = record { between = state; first = refl; rest = runs }
 run_parts (item ∷ front) back state after runs =

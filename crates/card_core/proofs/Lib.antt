@@ -8,6 +8,7 @@ pub mod CameLemmas
 pub mod CardLemmas
 pub mod CardStepLemmas
 pub mod CarriedLemmas
+pub mod ChangeLemmas
 pub mod CommandLemmas
 pub mod EachLemmas
 pub mod FollowLemmas
@@ -21,6 +22,7 @@ pub mod MovedStateLemmas
 pub mod NeighbourLemmas
 pub mod NicknameLemmas
 pub mod OutcomeLemmas
+pub mod PhaseLemmas
 pub mod PortLemmas
 pub mod RankLemmas
 pub mod RequestLemmas

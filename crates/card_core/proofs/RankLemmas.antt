@@ -238,3 +238,30 @@ module _ {X Y : Type 0} (R : Y → Y → Type 0) (S : X → X → Type 0) (Q : X
   each_two_given (x ∷ xs) so gives each =
       each_two_append R (f x) (flat_map f xs) each.0 (each_two_given xs so.1 gives.1 each.1)
       (across x xs so.0 gives.1 (f x) gives.0)
+
+-- what holds of every item holds of those of a list
+pub each_is : {X : Type 0} (P : X → Type 0) → ((x : X) → P x) → (xs : List X)
+    → AllByRecursion P xs
+each_is P holds [] = tt
+each_is P holds (x ∷ xs) = (holds x, each_is P holds xs)
+
+module _ {X : Type 0} (P : X → Type 0) where
+  both_so : (Q R : X → Type 0) → ((y : X) → P y → Q y → R y) → (ys : List X)
+      → AllByRecursion P ys → AllByRecursion Q ys → AllByRecursion R ys
+  both_so Q R so [] each its = tt
+  both_so Q R so (y ∷ ys) each its = (so y each.0 its.0, both_so Q R so ys each.1 its.1)
+
+  -- two items that are each so
+  pub each_two_with : (R S : X → X → Type 0) → ((x y : X) → P x → P y → R x y → S x y)
+      → (xs : List X) → AllByRecursion P xs → EachTwo R xs → EachTwo S xs
+  each_two_with R S so [] each two = tt
+  each_two_with R S so (x ∷ xs) each two = (
+    both_so (R x) (S x) (λ y its. so x y each.0 its) xs each.1 two.0,
+    each_two_with R S so xs each.1 two.1,
+  )
+
+  pub each_two_of : (S : X → X → Type 0) → ((x y : X) → P x → P y → S x y) → (xs : List X)
+      → AllByRecursion P xs → EachTwo S xs
+  each_two_of S so [] each = tt
+  each_two_of S so (x ∷ xs) each =
+      (each_weaker P (S x) (λ y. so x y each.0) xs each.1, each_two_of S so xs each.1)

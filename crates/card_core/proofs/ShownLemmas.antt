@@ -151,13 +151,20 @@ module _ (count : ℕ) where
       (on_it state item good fit) happens
 
   -- a statement with which the count of shared ones stays
+  pub local_there : (state : WorldState) (item : Shown) (made : Made) → IsGood count state
+      → IsFit count item → Happens item.failed state item.event made
+      → made.state.shared ≡ state.shared
+      → IsLocal (its_port item.event) state item.event item.failed made
+  local_there state item made good fit happens same =
+      counted_local (its_port item.event) state (sound_card state good.sound (its_port item.event))
+      item.failed item.event made (comes_there item.event fit.comes) happens same
+
   pub unshared_at : (state : WorldState) (item : Shown) (made : Made) → IsGood count state
       → IsFit count item → Happens item.failed state item.event made
       → made.state.shared ≡ state.shared → IsMadeAt (its_port item.event) state made
   unshared_at state item made good fit happens same =
       local_stays (its_port item.event) state good.sound item.event item.failed made
-      (counted_local (its_port item.event) state (sound_card state good.sound (its_port item.event))
-      item.failed item.event made (comes_there item.event fit.comes) happens same)
+      (local_there state item made good fit happens same)
 
   module _ (state : WorldState) (one other : Shown) (rest : List Shown) (after : WorldState)
       (good : IsGood count state) (fit : IsFit count one) (its_fit : IsFit count other)

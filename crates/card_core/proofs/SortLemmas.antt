@@ -60,6 +60,29 @@ not_before_is (rank ∷ ranks) x y is =
         let apart : rank.of x ≡ rank.of y → ⊥ = eqb-false (rank.of x) (rank.of y) its in
         inl (omega (arith, most, apart))
 
+-- an item stands before another
+abbrev pub IsLess : {X : Type 0} → List (Rank X) → X → X → Type 0
+IsLess [] x y = ⊥
+IsLess (rank ∷ ranks) x y =
+    (rank.of x < rank.of y) ⊎ ((rank.of x ≡ rank.of y) × IsLess ranks x y)
+
+pub before_less : {X : Type 0} (ranks : List (Rank X)) (x y : X) → is_before ranks x y ≡ true
+    → IsLess ranks x y
+before_less [] x y is = absurd cc
+before_less (rank ∷ ranks) x y is =
+    by (nat_lt (rank.of x) (rank.of y)) (nat_eq (rank.of x) (rank.of y)) refl refl
+    (before_less ranks x y) is
+  where
+    by : (less same : Bool) → nat_lt (rank.of x) (rank.of y) ≡ less
+        → nat_eq (rank.of x) (rank.of y) ≡ same
+        → (is_before ranks x y ≡ true → IsLess ranks x y)
+        → cond less true (cond same (is_before ranks x y) false) ≡ true
+        → IsLess (rank ∷ ranks) x y
+    by true same is its rest before = inl (ltb-true (rank.of x) (rank.of y) is)
+    by false true is its rest before =
+        inr (eqb-true (rank.of x) (rank.of y) its, rest before)
+    by false false is its rest before = absurd cc
+
 pub most_trans : {X : Type 0} (ranks : List (Rank X)) (x y z : X) → AtMost ranks x y → AtMost ranks y z
     → AtMost ranks x z
 most_trans [] x y z one other = tt
