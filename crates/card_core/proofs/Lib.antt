@@ -16,6 +16,7 @@ pub mod GivenLemmas
 pub mod InstalledLemmas
 pub mod KeptLemmas
 pub mod LocalLemmas
+pub mod MergedLemmas
 pub mod MetadataLemmas
 pub mod MovedLemmas
 pub mod MovedStateLemmas
