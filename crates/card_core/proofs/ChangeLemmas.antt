@@ -148,14 +148,14 @@ no_lines port item one apart =
     line_where : List Entry → Bool → List Entry
     line_where entries here = cond here entries []
 
-one_line : (count : ℕ) (item : Shown) → IsTold count item → item.next ≡ item.turn → HasOneLine item
+pub one_line : (count : ℕ) (item : Shown) → IsTold count item → item.next ≡ item.turn → HasOneLine item
 one_line count item told same = elim told.shared [
   | inl its ↦ its.1
   | inr more ↦ absurd (omega (arith, more, same))
 ]
 
 -- one of two ports is another than this one
-one_apart : (port one other : ℕ) → one ≢ other → (one ≢ port) ⊎ (other ≢ port)
+pub one_apart : (port one other : ℕ) → one ≢ other → (one ≢ port) ⊎ (other ≢ port)
 one_apart port one other apart = by (nat_eq one port) refl
   where
     by : (here : Bool) → nat_eq one port ≡ here → (one ≢ port) ⊎ (other ≢ port)

@@ -70,7 +70,7 @@ eq_swapped a b = by (nat_eq b a) refl
     by true is = eq-eqb a b (sym (eqb-true b a is))
     by false is = ne_eqb a b (λ equal. eqb-false b a is (sym equal))
 
-comes_by : (port : ℕ) (event : Event) → ComesToPort event
+pub comes_by : (port : ℕ) (event : Event) → ComesToPort event
     → is_for port event ≡ nat_eq port (its_port event)
 comes_by port (events.Apdu came bytes) comes = eq_swapped came port
 comes_by port (events.Reset came) comes = eq_swapped came port

@@ -13,9 +13,11 @@ pub mod CommandLemmas
 pub mod EachLemmas
 pub mod FollowLemmas
 pub mod GivenLemmas
+pub mod GivesLemmas
 pub mod InstalledLemmas
 pub mod KeptLemmas
 pub mod LocalLemmas
+pub mod MergeRunLemmas
 pub mod MergedLemmas
 pub mod MetadataLemmas
 pub mod MovedLemmas
@@ -24,6 +26,7 @@ pub mod NeighbourLemmas
 pub mod NicknameLemmas
 pub mod OutcomeLemmas
 pub mod PhaseLemmas
+pub mod PlacedLemmas
 pub mod PortLemmas
 pub mod RankLemmas
 pub mod RequestLemmas

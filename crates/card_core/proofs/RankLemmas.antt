@@ -1,6 +1,6 @@
 -- Lists in the order of several numbers of each item, the first number first.
 use Rattle.std.proofs.Common.{◌≡◌, ◌⊎◌, ◌<◌, ◌≤◌, ◌+◌, ℕ, zero, suc, Bool, true, false, cond, nat_eq}
-use Rattle.std.proofs.Common.{List, [], ◌∷◌, ◌++◌, filter, flat_map, refl, sym, ◌∙◌, ap, arith}
+use Rattle.std.proofs.Common.{List, [], ◌∷◌, ◌++◌, filter, flat_map, map, refl, sym, ◌∙◌, ap, arith}
 use Rattle.std.proofs.Common.{inl, inr, eqb-true}
 use Rattle.std.proofs.lemmas.Bool.{eq-eqb, eqb-false, ne_eqb}
 use Rattle.std.specs.List.{AllByRecursion, range_with_len}
@@ -265,3 +265,27 @@ module _ {X : Type 0} (P : X → Type 0) where
   each_two_of S so [] each = tt
   each_two_of S so (x ∷ xs) each =
       (each_weaker P (S x) (λ y. so x y each.0) xs each.1, each_two_of S so xs each.1)
+
+-- two orders of the same items
+pub each_two_both : {X : Type 0} (R S : X → X → Type 0) (xs : List X) → EachTwo R xs
+    → EachTwo S xs → EachTwo (λ x y. R x y × S x y) xs
+each_two_both R S [] one other = tt
+each_two_both {X} R S (x ∷ xs) one other =
+    (both xs one.0 other.0, each_two_both R S xs one.1 other.1)
+  where
+    both : (ys : List X) → AllByRecursion (R x) ys → AllByRecursion (S x) ys
+        → AllByRecursion (λ y. R x y × S x y) ys
+    both [] first second = tt
+    both (y ∷ ys) first second = ((first.0, second.0), both ys first.1 second.1)
+
+pub each_both : {X : Type 0} (P Q : X → Type 0) (xs : List X) → AllByRecursion P xs
+    → AllByRecursion Q xs → AllByRecursion (λ x. P x × Q x) xs
+each_both P Q [] one other = tt
+each_both P Q (x ∷ xs) one other = ((one.0, other.0), each_both P Q xs one.1 other.1)
+
+pub map_alike : {X Y : Type 0} (f g : X → Y) → ((x : X) → f x ≡ g x) → (xs : List X)
+    → map f xs ≡ map g xs
+map_alike f g alike [] = refl
+map_alike {X} {Y} f g alike (x ∷ xs) =
+    ap (λ (y : Y). y ∷ map f xs) (alike x)
+    ∙ ap (λ (ys : List Y). g x ∷ ys) (map_alike f g alike xs)

@@ -19,6 +19,7 @@ mod giving;
 mod installing;
 mod laws;
 mod load;
+mod merge_laws;
 mod port;
 mod port_content;
 mod recording;
@@ -49,6 +50,7 @@ pub use laws::{
     replies_are_given_in_order, requests_stay_within_their_limits,
 };
 pub use load::Load;
+pub use merge_laws::runs_may_be_made_in_the_order_of_their_merge;
 pub use port::{CardAnswer, Port};
 pub use port_content::{change_content, content_on, profile_on};
 pub use run::pure_run;
