@@ -114,7 +114,7 @@ module _ (count : ℕ) where
     then_good = good_after count state item made_of good fit runs.1
 
     pub is_made : IsStatementMade (its_port item.event) state made_of
-    is_made = made_there count state item made_of good fit runs.1
+    is_made = made_there count state item made_of good fit runs.1.0
 
     pub turn_is : item.turn ≡ state.shared
     turn_is = ap (λ (its : Shown). its.turn) runs.2
@@ -131,7 +131,7 @@ module _ (count : ℕ) where
     -- the heads stay where the count of shared statements does
     pub heads_stay : made_of.state.shared ≡ state.shared
         → made_of.state.durable.heads ≡ state.durable.heads
-    heads_stay same = (unshared_at count state item made_of good fit runs.1 same).heads
+    heads_stay same = (unshared_at count state item made_of good fit runs.1.0 same).heads
 
     pub shared_more : state.shared ≤ made_of.state.shared
     shared_more = elim is_made.shared [
@@ -223,7 +223,7 @@ module _ (count : ℕ) where
     subst (IsTold count) (sym runs.2)
     (one_told count state item.event item.failed runs.0 good
     (is_made state item items after good fit.0 runs) 
-    (local_there count state item runs.0 good fit.0 runs.1)),
+    (local_there count state item runs.0 good fit.0 runs.1.0)),
     told items runs.0.state after (then_good state item items after good fit.0 runs) fit.1 runs.3,
   )
 

@@ -31,7 +31,7 @@ use Rattle.card_core.specs.Merge.{makers_in, merge, phase_at, shared_in, told_of
 use Rattle.card_core.specs.PortState.{PortState, fresh_port}
 use Rattle.card_core.specs.Run.{IsOnCard}
 use Rattle.card_core.specs.Share.{AreShares, Share}
-use Rattle.card_core.specs.Sound.{BringsBytes, HasSoundLoads, IsSoundLoad}
+use Rattle.card_core.specs.Sound.{HasSoundLoads, IsSoundLoad}
 use Rattle.card_core.specs.Stepped.{AreSteps, Stepped}
 use Rattle.card_core.specs.Stretch.{entries_of, is_for, lines_at, steps_at}
 use Rattle.card_core.specs.World.{WorldState, next_maker, opened, port_in}
@@ -133,27 +133,21 @@ come_to_ports (phase ∷ phases) came come =
 items_fit : (count : ℕ) (items : List Shown)
     → AllByRecursion ComesToPort (map (λ item. item.event) items)
     → AllByRecursion (IsOnCard count) (map (λ item. item.event) items)
-    → AllByRecursion BringsBytes (map (λ item. item.event) items)
     → AllByRecursion (IsFit count) items
-items_fit count [] comes on small = tt
-items_fit count (item ∷ items) comes on small = (
-  record { comes = comes.0; on = on.0; small = small.0 },
-  items_fit count items comes.1 on.1 small.1,
-)
+items_fit count [] comes on = tt
+items_fit count (item ∷ items) comes on =
+    (record { comes = comes.0; on = on.0 }, items_fit count items comes.1 on.1)
 
-pub opened_good : (start : Durable) → IsDurable start → IsGood start.heads.ports.count (opened start)
-opened_good start are = record {
-  sound = opened_sound start are;
-  loads = λ port. subst (λ (its : PortState). IfSome its.load IsSoundLoad)
-      (sym (fresh_at start.heads.ports.count port)) tt;
-  ports = refl;
-}
+pub opened_loads : (start : Durable) → HasSoundLoads (opened start)
+opened_loads start port =
+    subst (λ (its : PortState). IfSome its.load IsSoundLoad)
+    (sym (fresh_at start.heads.ports.count port)) tt
 
 module _ (phases : List (List Event)) (start : Durable) (came : List Event) (taken : List Stepped)
     (after : WorldState) (are : IsDurable start)
     (on : AllByRecursion (IsOnCard start.heads.ports.count) came)
-    (small : AllByRecursion BringsBytes came) (come : ComeInPhases phases came)
-    (steps : AreSteps (opened start) came taken after) where
+    (come : ComeInPhases phases came) (steps : AreSteps (opened start) came taken after)
+    (keep : AllByRecursion (λ step. IsDurable step.made.state.durable) taken) where
   abbrev count : ℕ
   count = start.heads.ports.count
 
@@ -164,10 +158,10 @@ module _ (phases : List (List Event)) (start : Durable) (came : List Event) (tak
   items = map shown taken
 
   good : IsGood count first
-  good = opened_good start are
+  good = record { sound = opened_sound start are; ports = refl }
 
   runs : Runs first items after
-  runs = shows came first taken after steps
+  runs = shows came first taken after steps keep
 
   seen : map (λ item. item.event) items ≡ came
   seen = events_shown came first taken after steps
@@ -177,7 +171,6 @@ module _ (phases : List (List Event)) (start : Durable) (came : List Event) (tak
       items_fit count items
       (subst (AllByRecursion ComesToPort) (sym seen) (come_to_ports phases came come))
       (subst (AllByRecursion (IsOnCard count)) (sym seen) on)
-      (subst (AllByRecursion BringsBytes) (sym seen) small)
 
   -- phases are counted from the start on
   phase_is : (item : Shown) → phase_from phases first item ≡ item_phase phases item

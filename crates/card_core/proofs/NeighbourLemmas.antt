@@ -17,6 +17,7 @@ use Rattle.card_core.proofs.CameLemmas.{state_with}
 use Rattle.card_core.proofs.LocalLemmas.{IsLocal, IsOwnLine, LocalMade, counted_local, local_made}
 use Rattle.card_core.proofs.LocalLemmas.{stays_local}
 use Rattle.card_core.proofs.SoundLemmas.{sound_card}
+use Rattle.card_core.proofs.SoundLoadLemmas.{changed_are}
 use Rattle.card_core.proofs.StayLemmas.{heads_by}
 use Rattle.card_core.proofs.StretchLemmas.{local_stays}
 use Rattle.card_core.specs.OwnCommand.{changed_where}
@@ -155,6 +156,13 @@ view_elsewhere state port other made apart at =
       turn = n;
     }) at.shared
 
+-- two neighbours that changed places, and what the one that is now the first leaves
+pub record Changed (state : WorldState) (port other : ℕ) (event another : Event)
+    (failed fails : Bool) (one two : Made) : Type 0 where
+  pub change : ChangePlaces state event another failed fails one two
+  pub at : IsMadeAt other state change.first
+  pub durable : IsDurable change.first.state.durable
+
 module _ (state : WorldState) (sound : IsSoundState state) (port other : ℕ) (apart : port ≢ other)
     (event another : Event) (failed fails : Bool) (one two : Made)
     (here : IsLocal port state event failed one) where
@@ -182,14 +190,18 @@ module _ (state : WorldState) (sound : IsSoundState state) (port other : ℕ) (a
     earlier_happens : Happens fails state another earlier
     earlier_happens = there.again state (sym view_same)
 
+    earlier_fits : IfSome there.its.change (Fits (content_on state.durable other))
+    earlier_fits =
+        subst (λ (view : PortView). IfSome there.its.change (Fits view.content)) view_same
+        there.fits
+
     earlier_at : IsMadeAt other state earlier
     earlier_at =
         local_stays other state sound another fails earlier (record {
           its = there.its;
           is = refl;
           again = λ one_more same. there.again one_more (same ∙ sym view_same);
-          fits = subst (λ (view : PortView). IfSome there.its.change (Fits view.content)) view_same
-              there.fits;
+          fits = earlier_fits;
           own = subst (λ (view : PortView). IsOwnLine (view.port.statements + 1) there.its.line)
               view_same there.own;
         })
@@ -199,33 +211,37 @@ module _ (state : WorldState) (sound : IsSoundState state) (port other : ℕ) (a
         here.again earlier.state (view_elsewhere state other port earlier apart earlier_at)
 
     -- two neighbours that stay at different ports may change places
-    pub places_change : ChangePlaces state event another failed fails one two
-    places_change = record {
-      first = earlier;
-      second = later;
-      first_happens = earlier_happens;
-      second_happens = later_happens;
-      state = sym (states_commute state sound.are port other apart here.its there.its)
-          ∙ ap (λ (made : Made). (local_made made.state other there.its).state) (sym here.is)
-          ∙ ap (λ (made : Made). made.state) (sym there.is);
-      first_lines = ap (λ (view : PortView). record {
-        turn = view.turn;
-        port = other;
-        line = there.its.line;
-      } ∷ []) (sym view_same) ∙ ap (λ (made : Made). made.entries) (sym there.is);
-      second_lines = ap (λ (made : Made). made.entries) (sym here.is);
+    pub places_changed : Changed state port other event another failed fails one two
+    places_changed = record {
+      change = record {
+        first = earlier;
+        second = later;
+        first_happens = earlier_happens;
+        second_happens = later_happens;
+        state = sym (states_commute state sound.are port other apart here.its there.its)
+            ∙ ap (λ (made : Made). (local_made made.state other there.its).state) (sym here.is)
+            ∙ ap (λ (made : Made). made.state) (sym there.is);
+        first_lines = ap (λ (view : PortView). record {
+          turn = view.turn;
+          port = other;
+          line = there.its.line;
+        } ∷ []) (sym view_same) ∙ ap (λ (made : Made). made.entries) (sym there.is);
+        second_lines = ap (λ (made : Made). made.entries) (sym here.is);
+      };
+      at = earlier_at;
+      durable = changed_are state.durable sound.are other there.its.change earlier_fits;
     }
 
   pub places_change_staying : StaysAt other (view_at one.state other) another
       → Happens fails one.state another two
       → ChangePlaces state event another failed fails one two
   places_change_staying then_stays then_happens =
-      places_change
-      (stays_local other one.state sound_there fails another two then_stays then_happens)
+      (places_changed
+      (stays_local other one.state sound_there fails another two then_stays then_happens)).change
 
   pub places_change_counted : is_for other another ≡ true → Happens fails one.state another two
       → two.state.shared ≡ one.state.shared
-      → ChangePlaces state event another failed fails one two
+      → Changed state port other event another failed fails one two
   places_change_counted comes happens same =
-      places_change
+      places_changed
       (counted_local other one.state sound_there fails another two comes happens same)

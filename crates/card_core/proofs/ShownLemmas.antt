@@ -3,18 +3,18 @@ use Rattle.std.proofs.Common.{◌≡◌, ◌≢◌, ◌<◌, ◌≤◌, ◌+◌,
 use Rattle.std.proofs.Common.{◌∙◌, ap, subst, arith, inl, inr}
 use Rattle.std.proofs.lemmas.Bool.{eq-eqb}
 use Rattle.std.specs.List.{AllByRecursion}
+use Rattle.record_codec.specs.IsDurable.{IsDurable}
 use Rattle.record_codec.specs.declared.durable.Heads.{Heads}
 use Rattle.card_core.proofs.AloneRunLemmas.{happens_keeps}
 use Rattle.card_core.proofs.LocalLemmas.{IsLocal, counted_local}
-use Rattle.card_core.proofs.NeighbourLemmas.{places_change_counted}
-use Rattle.card_core.proofs.SoundLemmas.{sound_card}
-use Rattle.card_core.proofs.SoundLoadLemmas.{happens_whole}
+use Rattle.card_core.proofs.NeighbourLemmas.{Changed, places_change_counted}
+use Rattle.card_core.proofs.SoundLemmas.{happens_sound, sound_card}
 use Rattle.card_core.proofs.StatementLemmas.{IsStatementMade, its_port, statement_made}
 use Rattle.card_core.proofs.StretchLemmas.{local_stays}
 use Rattle.card_core.specs.Merge.{ComesToPort}
 use Rattle.card_core.specs.PortState.{PortState}
 use Rattle.card_core.specs.Run.{IsOnCard}
-use Rattle.card_core.specs.Sound.{BringsBytes, HasSoundLoads, IsSoundState}
+use Rattle.card_core.specs.Sound.{IsSoundState}
 use Rattle.card_core.specs.Stepped.{AreSteps, Happens, Stepped}
 use Rattle.card_core.specs.Stretch.{ChangePlaces, IsMadeAt, is_for}
 use Rattle.card_core.specs.World.{Made, WorldState, port_in}
@@ -47,20 +47,28 @@ shown_of state event failed made = record {
 abbrev pub shown : Stepped → Shown
 shown step = shown_of step.before step.event step.failed step.made
 
+-- what an item comes to keeps what a card may
+abbrev pub Becomes : WorldState → Shown → Made → Type 0
+Becomes state item made =
+    Happens item.failed state item.event made × IsDurable made.state.durable
+
 -- the card that shows this comes to that one
 abbrev pub Runs : WorldState → List Shown → WorldState → Type 0
 Runs state [] after = after ≡ state
 Runs state (item ∷ items) after =
-    (made : Made) × Happens item.failed state item.event made
+    (made : Made) × Becomes state item made
     × (item ≡ shown_of state item.event item.failed made) × Runs made.state items after
 
 pub shows : (came : List Event) (start : WorldState) (taken : List Stepped) (after : WorldState)
-    → AreSteps start came taken after → Runs start (map shown taken) after
-shows [] start taken after are =
+    → AreSteps start came taken after
+    → AllByRecursion (λ step. IsDurable step.made.state.durable) taken
+    → Runs start (map shown taken) after
+shows [] start taken after are keep =
     subst (λ (its : List Stepped). Runs start (map shown its) after) (sym are.0) are.1
-shows (event ∷ came) start taken after are =
+shows (event ∷ came) start taken after are keep =
+    let each = subst (AllByRecursion (λ step. IsDurable step.made.state.durable)) are.5 keep in
     subst (λ (its : List Stepped). Runs start (map shown its) after) (sym are.5)
-    (are.1, are.3, refl, shows came are.1.state are.2 after are.4)
+    (are.1, (are.3, each.0), refl, shows came are.1.state are.2 after are.4 each.1)
 
 -- a run that shows this
 pub record ShowsRun (start : WorldState) (items : List Shown) (after : WorldState) : Type 0 where
@@ -85,7 +93,7 @@ shown_run (item ∷ items) start after runs =
     record {
       events = item.event ∷ rest.events;
       taken = step ∷ rest.taken;
-      came = (item.failed, runs.0, rest.taken, runs.1, rest.came, refl);
+      came = (item.failed, runs.0, rest.taken, runs.1.0, rest.came, refl);
       are = ap (λ (its : Shown). its ∷ map shown rest.taken) (sym runs.2)
           ∙ ap (λ (its : List Shown). item ∷ its) rest.are;
     }
@@ -93,14 +101,12 @@ shown_run (item ∷ items) start after runs =
 -- a card on which statements may come
 pub record IsGood (count : ℕ) (state : WorldState) : Type 0 where
   pub sound : IsSoundState state
-  pub loads : HasSoundLoads state
   pub ports : state.durable.heads.ports.count ≡ count
 
 -- what comes in an item is a statement at a port of the card
 pub record IsFit (count : ℕ) (item : Shown) : Type 0 where
   pub comes : ComesToPort item.event
   pub on : IsOnCard count item.event
-  pub small : BringsBytes item.event
 
 abbrev pub IsShared : Shown → Type 0
 IsShared item = item.next ≡ item.turn + 1
@@ -124,19 +130,19 @@ module _ (count : ℕ) where
 
   -- the card after a statement is such a one
   pub good_after : (state : WorldState) (item : Shown) (made : Made) → IsGood count state
-      → IsFit count item → Happens item.failed state item.event made → IsGood count made.state
-  good_after state item made good fit happens =
-      let its = happens_whole state good.sound good.loads item.failed item.event made
-      (on_it state item good fit) fit.small happens in
+      → IsFit count item → Becomes state item made → IsGood count made.state
+  good_after state item made good fit becomes =
+      let sound : IsSoundState made.state =
+      happens_sound state good.sound item.failed item.event made (on_it state item good fit)
+      becomes.0 becomes.1 in
       record {
-        sound = its.0;
-        loads = its.1;
+        sound = sound;
         ports =
             let places : length made.state.ports ≡ length state.ports =
             (happens_keeps state good.sound item.failed item.event made
-            (on_it state item good fit) happens).places in
+            (on_it state item good fit) becomes.0).places in
             let now : length made.state.ports ≡ made.state.durable.heads.ports.count =
-            its.0.count in
+            sound.count in
             let before : length state.ports ≡ state.durable.heads.ports.count =
             good.sound.count in
             let is : state.durable.heads.ports.count ≡ count = good.ports in
@@ -194,40 +200,23 @@ module _ (count : ℕ) where
     here : IsLocal port state one.event one.failed made
     here =
         counted_local port state (sound_card state good.sound port) one.failed one.event made
-        (comes_there one.event fit.comes) runs.1 stays
+        (comes_there one.event fit.comes) runs.1.0 stays
 
-    change : ChangePlaces state one.event other.event one.failed other.failed made then_made
-    change =
+    changed : Changed state port neighbour one.event other.event one.failed other.failed made
+        then_made
+    changed =
         places_change_counted state good.sound port neighbour may.apart one.event other.event
         one.failed other.failed made then_made here (comes_there other.event its_fit.comes)
-        runs.3.1 then_stays
+        runs.3.1.0 then_stays
+
+    abbrev change : ChangePlaces state one.event other.event one.failed other.failed made then_made
+    change = changed.change
 
     at : IsMadeAt port state made
     at = local_stays port state good.sound one.event one.failed made here
 
-    first_counts : IsStatementMade neighbour state change.first
-    first_counts = made_there state other change.first good its_fit change.first_happens
-
-    second_counts : IsStatementMade port change.first.state change.second
-    second_counts =
-        made_there change.first.state one change.second
-        (good_after state other change.first good its_fit change.first_happens) fit
-        change.second_happens
-
-    first_stays : change.first.state.shared ≡ state.shared
-    first_stays = elim first_counts.shared [
-      | inl same ↦ same
-      | inr raised ↦
-          let last : change.second.state.shared ≡ then_made.state.shared =
-          ap (λ (its : WorldState). its.shared) change.state in
-          elim second_counts.shared [
-            | inl same ↦ absurd (omega (arith, raised, last, same, stays, then_stays))
-            | inr more ↦ absurd (omega (arith, raised, last, more, stays, then_stays))
-          ]
-    ]
-
     first_at : IsMadeAt neighbour state change.first
-    first_at = unshared_at state other change.first good its_fit change.first_happens first_stays
+    first_at = changed.at
 
     other_is : other ≡ shown_of state other.event other.failed change.first
     other_is =
@@ -331,11 +320,14 @@ module _ (count : ℕ) where
     pub runs_swapped : Runs state (other ∷ one ∷ rest) after
     runs_swapped = (
       change.first,
-      change.first_happens,
+      (change.first_happens, changed.durable),
       other_is,
       (
         change.second,
-        change.second_happens,
+        (
+          change.second_happens,
+          subst (λ (its : WorldState). IsDurable its.durable) (sym change.state) runs.3.1.1,
+        ),
         one_is,
         subst (λ (its : WorldState). Runs its rest after) (sym change.state) runs.3.3,
       ),

@@ -13,6 +13,6 @@ returns-clause-unshared c state port other event another failed fails one two so
 pub returns-clause-counted : goal.returns-clause-counted
 returns-clause-counted c state port other event another failed fails one two sound apart comes
     happens same then_comes then_happens then_same =
-    places_change_counted state sound port other apart event another failed fails one two
+    (places_change_counted state sound port other apart event another failed fails one two
     (counted_local port state (sound_card state sound port) failed event one comes happens same)
-    then_comes then_happens then_same
+    then_comes then_happens then_same).change
