@@ -4,7 +4,7 @@ use Rattle.std.specs.Prelude.{ℕ, ◌≡◌, ◌+◌, ◌-◌, ◌==◌, ◌&&�
 use Rattle.std.specs.Prelude.{List, [], ◌∷◌, ◌++◌, filter, length, map}
 use Rattle.std.specs.List.{AllByRecursion, flat_map, list_any, range_with_len}
 use Rattle.card_core.specs.Share.{AreShares, Share}
-use Rattle.card_core.specs.Stepped.{AreSteps, Stepped}
+use Rattle.card_core.specs.Stepped.{AreSteps, NotFailed, Stepped}
 use Rattle.card_core.specs.Stretch.{entries_of, is_for, lines_at, steps_at}
 use Rattle.card_core.specs.World.{WorldState, next_maker}
 use Rattle.card_core.specs.declared.entry.Entry.{Entry}
@@ -131,3 +131,14 @@ pub record RunsAsMerged (phases : List (List Event)) (start : WorldState) (steps
   pub ports : (port : ℕ) → map told_of (steps_at port merged) ≡ map told_of (steps_at port steps)
   pub shares : (profile : ℕ) (share : Share) → AreShares profile steps share
       → AreShares profile merged share
+
+-- a run of a card that made these lines, and in whatever phases its events came, the order of the
+-- merge
+pub record MayBeMerged (start : WorldState) (events : List Event) (entries : List Entry)
+    (after : WorldState) : Type 0 where
+  pub steps : List Stepped
+  pub came : AreSteps start events steps after
+  pub made : AllByRecursion NotFailed steps
+  pub lines : entries ≡ entries_of steps
+  pub merged : (phases : List (List Event)) → ComeInPhases phases events
+      → RunsAsMerged phases start steps after

@@ -3,6 +3,7 @@ use Rattle.std.proofs.lemmas.List.{take_all}
 use Rattle.std.specs.List.{sum_by}
 use Rattle.record_codec.specs.IsDurable.{IsDurable}
 use Rattle.card_core.proofs.AloneRunLemmas.{answered_alone}
+use Rattle.card_core.proofs.MergeRunLemmas.{runs_as_merged}
 use Rattle.card_core.proofs.RunLemmas.{makes_one_more, next_on, next_room, next_sum, next_taken}
 use Rattle.card_core.proofs.RunLemmas.{ports_are}
 use Rattle.card_core.proofs.SoundLemmas.{opened_sound}
@@ -71,6 +72,25 @@ loop-event-preserved c =
           (one_more_so_far start (take index events) world.entries (world_state world) event made
           c.loop-event.invariant.so all.1
           (subst (λ (its : WorldState). IsDurable its.durable) came.state came.whole.are))));
+    }
+
+pub returns-clause-merged : goal.returns-clause-merged
+returns-clause-merged c =
+    let start : WorldState = opened c.args.start.now in
+    let events : List Event = c.args.events.now in
+    let world : World = c.loop-event.world in
+    let so : SoFarIn start events world.entries (world_state world) =
+    subst (λ (its : List Event). SoFarIn start its world.entries (world_state world))
+    (take_all c.loop-event.event-index events (omega (arith, c.loop-event-test.false)))
+    c.loop-event.invariant.so in
+    record {
+      steps = so.steps;
+      came = so.came;
+      made = so.made;
+      lines = so.lines;
+      merged = λ phases come.
+          runs_as_merged phases c.args.start.now events so.steps (world_state world)
+          c.requires.start c.requires.events.ports come so.came so.durable;
     }
 
 pub returns-clause-alone : goal.returns-clause-alone
