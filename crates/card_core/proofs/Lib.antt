@@ -26,6 +26,7 @@ pub mod NeighbourLemmas
 pub mod NicknameLemmas
 pub mod OutcomeLemmas
 pub mod PhaseLemmas
+pub mod PhaseOrderLemmas
 pub mod PlacedLemmas
 pub mod PortLemmas
 pub mod RankLemmas

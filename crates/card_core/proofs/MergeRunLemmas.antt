@@ -16,9 +16,11 @@ use Rattle.card_core.proofs.FollowLemmas.{Follows, IsTold, comes_by, follow, num
 use Rattle.card_core.proofs.GivesLemmas.{AllGive, OneQuiet, all_show, all_shown, one_quiet, order_give}
 use Rattle.card_core.proofs.MergedLemmas.{merge_is, turns_within}
 use Rattle.card_core.proofs.PhaseLemmas.{InPhases, in_phases, phase_from}
+use Rattle.card_core.proofs.PhaseOrderLemmas.{KeepsBy, come_by_numbers, events_in, keeps_again}
+use Rattle.card_core.proofs.PhaseOrderLemmas.{keeps_alike, picked, picked_either}
 use Rattle.card_core.proofs.PlacedLemmas.{lines_sieved}
 use Rattle.card_core.proofs.RankLemmas.{AtMost, each_both, each_joined, each_two_both, each_two_with}
-use Rattle.card_core.proofs.RankLemmas.{each_weaker, map_alike}
+use Rattle.card_core.proofs.RankLemmas.{by_number, each_weaker, in_first_order, map_alike}
 use Rattle.card_core.proofs.SeenLemmas.{fresh_at}
 use Rattle.card_core.proofs.ShownLemmas.{IsFit, IsGood, MaySwap, Runs, Shown, ShowsRun, shown, shown_run}
 use Rattle.card_core.proofs.ShownLemmas.{shows}
@@ -305,12 +307,48 @@ module _ (phases : List (List Event)) (start : Durable) (came : List Event) (tak
       ∙ sym (merge_is phases (flat_map shared_of in_merge) count merged_lines)
       ∙ ap (merge phases) lanes_are
 
+  merged_logs : (port : ℕ) → lines_at port (entries_of run.taken) ≡ lines_at port (entries_of taken)
+  merged_logs port =
+      ap (lines_at port) (entries_shown run.taken
+      ∙ ap (λ (its : List Shown). flat_map (λ item. item.entries) its) run.are)
+      ∙ lines_flat port in_merge ∙ same_lines port ∙ sym (lines_flat port items)
+      ∙ ap (lines_at port) (sym (entries_shown taken))
+
+  -- the phases come one after another
+  keeps_phases : KeepsBy (item_phase phases) 0 phases in_merge
+  keeps_phases =
+      keeps_again (item_phase phases) items in_merge
+      (λ n port. order_gives (item_ranks phases) (picked (item_phase phases) n port) items
+      (changing (λ one other. picked (item_phase phases) n port one
+      ++ picked (item_phase phases) n port other
+      ≡ picked (item_phase phases) n port other ++ picked (item_phase phases) n port one)
+      (λ one other its also so may turn.
+      picked_either (item_phase phases) n port one other its.1.comes also.1.comes may))) 0 phases
+      (keeps_alike (phase_from phases first) (item_phase phases) phase_is 0 phases items
+      by_phase.keeps)
+
+  merged_phased : ComeInPhases phases run.events
+  merged_phased =
+      subst (ComeInPhases phases)
+      (ap events_in (by_number (item_phase phases) in_merge (length phases)
+      (in_first_order (record { of = item_phase phases; below = 0 })
+      (record { of = λ item. item.turn; below = 0 }
+      ∷ record { of = λ item. item.next; below = 0 }
+      ∷ record { of = λ item. its_port item.event; below = 0 } ∷ [])
+      in_merge (ordered (item_ranks phases) items))
+      (order_each (item_ranks phases) (λ item. item_phase phases item < length phases) items
+      phases_within) ∙ sym run.are)
+      ∙ events_shown run.events first run.taken after run.came)
+      (come_by_numbers count (item_phase phases) in_merge merged_fits 0 phases keeps_phases)
+
   pub runs_as_merged : RunsAsMerged phases first taken after
   runs_as_merged = record {
     events = run.events;
     merged = run.taken;
+    phased = merged_phased;
     came = run.came;
     log = merged_log;
+    logs = merged_logs;
     ports = λ port.
         told_shown port run.taken
         ∙ ap (λ (its : List Shown). flat_map (told_at port) its) run.are

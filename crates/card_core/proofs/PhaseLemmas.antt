@@ -7,6 +7,7 @@ use Rattle.file_rows.proofs.ListLemmas.{each_left, each_right}
 use Rattle.plain_lists.specs.EachTwo.{EachTwo}
 use Rattle.card_core.proofs.FollowLemmas.{InParts, IsBehind, RunsInParts, behind, counted_in, number_of}
 use Rattle.card_core.proofs.FollowLemmas.{parts, run_parts, within_end}
+use Rattle.card_core.proofs.PhaseOrderLemmas.{KeepsBy, events_in, first_of_both, keeps_later}
 use Rattle.card_core.proofs.RankLemmas.{each_is, each_joined, each_two_append, each_two_of, each_two_with}
 use Rattle.card_core.proofs.RankLemmas.{each_weaker}
 use Rattle.card_core.proofs.ShownLemmas.{IsFit, IsGood, Runs, Shown, good_after}
@@ -27,6 +28,7 @@ pub record InPhases (phases : List (List Event)) (state : WorldState) (items : L
   pub order : EachTwo (λ one other. phase_from phases state one ≤ phase_from phases state other)
       items
   pub within : AllByRecursion (λ item. phase_from phases state item < length phases) items
+  pub keeps : KeepsBy (phase_from phases state) 0 phases items
 
 in_first : (phase : List Event) (phases : List (List Event)) (port number : ℕ)
     → number ≤ length (filter (is_for port) phase) → phase_at (phase ∷ phases) port number ≡ 0
@@ -125,6 +127,12 @@ module _ (count : ℕ) where
           (each_weaker (λ item. its item ≡ 0) (λ item. its item < length (phase ∷ phases))
           (λ item is. omega (arith, is)) front first_is)
           (within_back back later_is rest.within);
+      keeps = (
+        λ port. ap (λ (items : List Shown). filter (is_for port) (events_in items))
+            (first_of_both its (phase_from phases between) front back first_is later_is)
+            ∙ keeps port,
+        keeps_later its (phase_from phases between) front back first_is later_is 0 phases rest.keeps,
+      );
     }
       where
         within_back : (items : List Shown)
@@ -140,7 +148,8 @@ module _ (count : ℕ) where
   pub in_phases : (phases : List (List Event)) (items : List Shown) (state after : WorldState)
       → IsGood count state → AllByRecursion (IsFit count) items → Runs state items after
       → ComeInPhases phases (map (λ item. item.event) items) → InPhases phases state items
-  in_phases [] [] state after good fit runs come = record { order = tt; within = tt }
+  in_phases [] [] state after good fit runs come =
+      record { order = tt; within = tt; keeps = tt }
   in_phases [] (item ∷ items) state after good fit runs come = absurd cc
   in_phases (phase ∷ phases) items state after good fit runs come =
       let split : InParts (λ item. item.event) items come.0 come.1 =

@@ -124,7 +124,7 @@ module _ {X : Type 0} (key : X → ℕ) where
           (range_with_len (first + 1) count)) (sym none)
 
   -- items in the order of a number, by that number
-  by_number : (xs : List X) (count : ℕ) → EachTwo (λ x y. key x ≤ key y) xs
+  pub by_number : (xs : List X) (count : ℕ) → EachTwo (λ x y. key x ≤ key y) xs
       → AllByRecursion (λ x. key x < count) xs
       → flat_map (λ n. of_number n xs) (range_with_len 0 count) ≡ xs
   by_number [] count order within = nothing 0 count
@@ -142,7 +142,7 @@ module _ {X : Type 0} (rank : Rank X) (ranks : List (Rank X)) where
   first_number x y (inl less) = omega (arith, less)
   first_number x y (inr same) = let its = same.0 in omega (arith, its)
 
-  in_first_order : (xs : List X) → EachTwo (AtMost (rank ∷ ranks)) xs
+  pub in_first_order : (xs : List X) → EachTwo (AtMost (rank ∷ ranks)) xs
       → EachTwo (λ x y. rank.of x ≤ rank.of y) xs
   in_first_order [] order = tt
   in_first_order (x ∷ xs) order = (

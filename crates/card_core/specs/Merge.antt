@@ -119,15 +119,17 @@ abbrev pub told_of : Stepped → Told
 told_of step =
     record { event = step.event; failed = step.failed; entries = step.made.entries }
 
--- a run, and the same statements made in the order of the merge: they leave the same card, its log
--- is the merge, each port's statements come in the same order and fail and are told alike, and each
--- profile has the same share
+-- a run, and the same statements made in the order of the merge: they come in the same phases and
+-- leave the same card; its log is the merge, in which each port has the log that it had; each port's
+-- statements come in the same order and fail and are told alike; and each profile has the same share
 pub record RunsAsMerged (phases : List (List Event)) (start : WorldState) (steps : List Stepped)
     (after : WorldState) : Type 0 where
   pub events : List Event
   pub merged : List Stepped
+  pub phased : ComeInPhases phases events
   pub came : AreSteps start events merged after
   pub log : entries_of merged ≡ merge phases (lanes_of start.durable.heads.ports.count steps)
+  pub logs : (port : ℕ) → lines_at port (entries_of merged) ≡ lines_at port (entries_of steps)
   pub ports : (port : ℕ) → map told_of (steps_at port merged) ≡ map told_of (steps_at port steps)
   pub shares : (profile : ℕ) (share : Share) → AreShares profile steps share
       → AreShares profile merged share
