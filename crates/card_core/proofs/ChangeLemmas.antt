@@ -107,7 +107,7 @@ module _ (phases : List (List Event)) where
           runs.1,
           runs.2,
           order_runs items runs.0.state after
-          (good_after count state item runs.0 good fits.0 runs.1) fits.1 swaps.1 runs.3,
+              (good_after count state item runs.0 good fits.0 runs.1) fits.1 swaps.1 runs.3,
         )
 
 -- two lists of which one is empty, in either order

@@ -10,7 +10,8 @@ use Rattle.card_core.proofs.LocalLemmas.{IsLocal, IsOwnLine}
 use Rattle.card_core.proofs.RankLemmas.{AtMost, each_joined, each_two_append, each_weaker}
 use Rattle.card_core.proofs.ShownLemmas.{IsFit, IsGood, Runs, Shown, good_after, made_there, shown_of}
 use Rattle.card_core.proofs.ShownLemmas.{local_there, unshared_at}
-use Rattle.card_core.proofs.StatementLemmas.{IsLineOf, IsStatementMade, its_port, own_first}
+use Rattle.card_core.proofs.StatementLemmas.{IsLineOf, IsStatementMade, its_port}
+use Rattle.card_core.proofs.LineLemmas.{own_first}
 use Rattle.card_core.specs.Merge.{ComeInPhases, ComesToPort, maker_of, phase_at}
 use Rattle.card_core.specs.Stretch.{is_for}
 use Rattle.card_core.specs.World.{Made, WorldState, count_if, port_in}
@@ -93,11 +94,14 @@ one_told count state event failed made good its own = record {
       }) made.entries its.lines;
   order = its.order;
   shared = elim its.shared [
-    | inl same ↦ inl (same, record {
+    | inl same ↦ inl (
+      same,
+      record {
         line = (own same).its.line;
         are = ap (λ (one : Made). one.entries) (own same).is;
         own = (own same).own;
-      })
+      },
+    )
     | inr more ↦ inr more
   ];
   once = one_port state.durable good.sound.are;
@@ -152,26 +156,26 @@ module _ (count : ℕ) where
       heads = λ same. heads_are state item items after good fit.0 runs;
     },
     each_weaker (IsBehind runs.0.state) (IsBehind state)
-    (λ one its. record {
-      turn = let more : state.shared ≤ runs.0.state.shared =
-          shared_more state item items after good fit.0 runs in
-          let rest : runs.0.state.shared ≤ one.turn = its.turn in omega (arith, more, rest);
-      number = let counts : (port_in runs.0.state (its_port one.event)).statements
-          ≡ (port_in state (its_port one.event)).statements
-          + count_if (nat_eq (its_port one.event) (its_port item.event)) =
-          (is_made state item items after good fit.0 runs).counts (its_port one.event) in
-          let rest : (port_in runs.0.state (its_port one.event)).statements
-          ≤ one.here.statements = its.number in omega (arith, counts, rest);
-      heads = λ same.
-          let more : state.shared ≤ runs.0.state.shared =
-          shared_more state item items after good fit.0 runs in
-          let rest : runs.0.state.shared ≤ one.turn = its.turn in
-          let stays : runs.0.state.shared ≡ state.shared = omega (arith, more, rest, same) in
-          its.heads (same ∙ sym stays)
-          ∙ heads_stay state item items after good fit.0 runs stays;
-    }) items
-    (behind items runs.0.state after (then_good state item items after good fit.0 runs) fit.1
-    runs.3),
+        (λ one its. record {
+          turn = let more : state.shared ≤ runs.0.state.shared =
+              shared_more state item items after good fit.0 runs in
+              let rest : runs.0.state.shared ≤ one.turn = its.turn in omega (arith, more, rest);
+          number = let counts : (port_in runs.0.state (its_port one.event)).statements
+              ≡ (port_in state (its_port one.event)).statements
+              + count_if (nat_eq (its_port one.event) (its_port item.event)) =
+              (is_made state item items after good fit.0 runs).counts (its_port one.event) in
+              let rest : (port_in runs.0.state (its_port one.event)).statements
+              ≤ one.here.statements = its.number in omega (arith, counts, rest);
+          heads = λ same.
+              let more : state.shared ≤ runs.0.state.shared =
+              shared_more state item items after good fit.0 runs in
+              let rest : runs.0.state.shared ≤ one.turn = its.turn in
+              let stays : runs.0.state.shared ≡ state.shared = omega (arith, more, rest, same) in
+              its.heads (same ∙ sym stays)
+              ∙ heads_stay state item items after good fit.0 runs stays;
+        }) items
+        (behind items runs.0.state after (then_good state item items after good fit.0 runs) fit.1
+        runs.3),
   )
 
   -- in a run each item follows those before it
@@ -180,34 +184,34 @@ module _ (count : ℕ) where
   follow [] state after good fit runs = tt
   follow (item ∷ items) state after good fit runs = (
     each_weaker (IsBehind runs.0.state) (Follows item)
-    (λ one its. record {
-      turn = let is : item.next ≡ runs.0.state.shared =
-          next_is state item items after good fit.0 runs in
-          let rest : runs.0.state.shared ≤ one.turn = its.turn in omega (arith, is, rest);
-      number = λ same.
-          let counts : (port_in runs.0.state (its_port one.event)).statements
-          ≡ (port_in state (its_port one.event)).statements
-          + count_if (nat_eq (its_port one.event) (its_port item.event)) =
-          (is_made state item items after good fit.0 runs).counts (its_port one.event) in
-          let once : count_if (nat_eq (its_port one.event) (its_port item.event)) ≡ 1 =
-          ap count_if (eq-eqb (its_port one.event) (its_port item.event) (sym same)) in
-          let is : item.here.statements ≡ (port_in state (its_port one.event)).statements =
-          here_is state item items after good fit.0 runs
-          ∙ ap (λ (n : ℕ). (port_in state n).statements) same in
-          let rest : (port_in runs.0.state (its_port one.event)).statements
-          ≤ one.here.statements = its.number in omega (arith, counts, once, is, rest);
-      heads = λ unshared same.
-          let before : item.turn ≡ state.shared =
-          turn_is state item items after good fit.0 runs in
-          let then : item.next ≡ runs.0.state.shared =
-          next_is state item items after good fit.0 runs in
-          let stays : runs.0.state.shared ≡ state.shared =
-          omega (arith, before, then, unshared) in
-          its.heads (same ∙ before ∙ sym stays)
-          ∙ heads_stay state item items after good fit.0 runs stays
-          ∙ sym (heads_are state item items after good fit.0 runs);
-    }) items
-    (behind items runs.0.state after now fit.1 runs.3),
+        (λ one its. record {
+          turn = let is : item.next ≡ runs.0.state.shared =
+              next_is state item items after good fit.0 runs in
+              let rest : runs.0.state.shared ≤ one.turn = its.turn in omega (arith, is, rest);
+          number = λ same.
+              let counts : (port_in runs.0.state (its_port one.event)).statements
+              ≡ (port_in state (its_port one.event)).statements
+              + count_if (nat_eq (its_port one.event) (its_port item.event)) =
+              (is_made state item items after good fit.0 runs).counts (its_port one.event) in
+              let once : count_if (nat_eq (its_port one.event) (its_port item.event)) ≡ 1 =
+              ap count_if (eq-eqb (its_port one.event) (its_port item.event) (sym same)) in
+              let is : item.here.statements ≡ (port_in state (its_port one.event)).statements =
+              here_is state item items after good fit.0 runs
+              ∙ ap (λ (n : ℕ). (port_in state n).statements) same in
+              let rest : (port_in runs.0.state (its_port one.event)).statements
+              ≤ one.here.statements = its.number in omega (arith, counts, once, is, rest);
+          heads = λ unshared same.
+              let before : item.turn ≡ state.shared =
+              turn_is state item items after good fit.0 runs in
+              let then : item.next ≡ runs.0.state.shared =
+              next_is state item items after good fit.0 runs in
+              let stays : runs.0.state.shared ≡ state.shared =
+              omega (arith, before, then, unshared) in
+              its.heads (same ∙ before ∙ sym stays)
+              ∙ heads_stay state item items after good fit.0 runs stays
+              ∙ sym (heads_are state item items after good fit.0 runs);
+        }) items
+        (behind items runs.0.state after now fit.1 runs.3),
     follow items runs.0.state after now fit.1 runs.3,
   )
     where
@@ -221,9 +225,9 @@ module _ (count : ℕ) where
   told [] state after good fit runs = tt
   told (item ∷ items) state after good fit runs = (
     subst (IsTold count) (sym runs.2)
-    (one_told count state item.event item.failed runs.0 good
-    (is_made state item items after good fit.0 runs) 
-    (local_there count state item runs.0 good fit.0 runs.1.0)),
+        (one_told count state item.event item.failed runs.0 good
+        (is_made state item items after good fit.0 runs)
+        (local_there count state item runs.0 good fit.0 runs.1.0)),
     told items runs.0.state after (then_good state item items after good fit.0 runs) fit.1 runs.3,
   )
 
@@ -287,8 +291,7 @@ module _ (count : ℕ) where
       let once : count_if (nat_eq port (its_port item.event)) ≡ 1 =
       ap count_if (eq-eqb port port refl) in
       let is : item.here.statements ≡ (port_in state port).statements =
-      here_is state item items after good fit.0 runs in
-      (
+      here_is state item items after good fit.0 runs in (
         omega (arith, rest, counts, once, is),
         within_end items runs.0.state after now fit.1 runs.3,
       )

@@ -86,7 +86,6 @@ AllGive profile (item ∷ items) share =
     (first : Share) × (rest : Share) × Gives profile item first × AllGive profile items rest
     × (share ≡ joined_share first rest)
 
-
 -- a step gives what it shows
 module _ (profile : ℕ) (before : WorldState) (failed : Bool) (made : Made) (share : Share) where
   abbrev its_step : Event → Stepped

@@ -10,12 +10,14 @@ pub mod CardStepLemmas
 pub mod CarriedLemmas
 pub mod ChangeLemmas
 pub mod CommandLemmas
+pub mod CountedLemmas
 pub mod EachLemmas
 pub mod FollowLemmas
 pub mod GivenLemmas
 pub mod GivesLemmas
 pub mod InstalledLemmas
 pub mod KeptLemmas
+pub mod LineLemmas
 pub mod LocalLemmas
 pub mod MergeRunLemmas
 pub mod MergedLemmas

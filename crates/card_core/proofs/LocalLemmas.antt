@@ -147,11 +147,6 @@ quiet desk c = by (nat_eq c.ins 0xC0)
         get_response-has IsQuiet (exchange_at desk c.channel) c (λ sw. refl) refl
     by false = refl
 
--- a count that stays although one was added where it is so
-not_counted_by : (count : ℕ) (is_so : Bool) → count + count_if is_so ≡ count → is_so ≡ false
-not_counted_by count true same = absurd (omega (arith, same))
-not_counted_by count false same = refl
-
 -- ports of which none moves
 none_move : (came channel first : ℕ) (ports : List PortState)
     → at_each (λ number. port_moved (kept_on came channel number) (move_at [] number)) first ports
@@ -199,7 +194,7 @@ module _ (port : ℕ) where
   }
 
   -- bytes that spell no command
-  unspelled_local : (state : WorldState) (bytes : List ℕ) (made : Made)
+  pub unspelled_local : (state : WorldState) (bytes : List ℕ) (made : Made)
       → ((c : Apdu) → ¬ Spells bytes c)
       → made ≡ answered_alone state port (status_alone (refusal bytes))
       → IsLocal state (events.Apdu port bytes) false made
@@ -329,7 +324,7 @@ module _ (port : ℕ) where
 
   -- a command that isn't shared
   module _ (state : WorldState) (sound : IsSound (card_in state port)) where
-    command_is_local : (bytes : List ℕ) (c : Apdu) (made : Made) → Spells bytes c
+    pub command_is_local : (bytes : List ℕ) (c : Apdu) (made : Made) → Spells bytes c
         → is_shared_at (view_at state port) c ≡ false → made ≡ command_made state port c
         → IsLocal state (events.Apdu port bytes) false made
     command_is_local bytes c made spelled unshared =
@@ -351,28 +346,6 @@ module _ (port : ℕ) where
         by false is_lsi is_store own test store none is =
             own_is_local state bytes c made sound spelled own is
 
-    -- the count of shared statements rises with a shared command
-    lsi_counts : (asked : Result Lsi Sw)
-        → (lsi_asked_for state port asked).state.shared
-        ≡ state.shared + count_if (resets_a_port asked)
-    lsi_counts (Ok lsi.Count) = omega arith
-    lsi_counts (Ok (lsi.Reset other)) = omega arith
-    lsi_counts (Err sw) = omega arith
-
-    command_counts : (c : Apdu)
-        → (command_made state port c).state.shared
-        ≡ state.shared + count_if (is_shared_at (view_at state port) c)
-    command_counts c = by (is_common (port_in state port).session c) (nat_eq c.ins 0x7A)
-      where
-        by : (common is_lsi : Bool) → (cond common
-            (cond is_lsi (lsi_made state port c) (isdr_made state port c))
-            (own_made state port c)).state.shared
-            ≡ state.shared + count_if (common && cond is_lsi
-            (resets_a_port (lsi_of c state.durable.heads.ports.count)) (is_shared_command c))
-        by true true = lsi_counts (lsi_of c state.durable.heads.ports.count)
-        by true false = refl
-        by false is_lsi = omega arith
-
     bytes_local : (bytes : List ℕ) (made : Made)
         → ((c : Apdu) → Spells bytes c → is_shared_at (view_at state port) c ≡ false)
         → AnswersBytes state port bytes made
@@ -382,7 +355,7 @@ module _ (port : ℕ) where
     bytes_local bytes made unshared (inr none) = unspelled_local state bytes made none.0 none.1
 
     -- a command that failed
-    abbrev Counts : PortView → Apdu → Bool
+    abbrev pub Counts : PortView → Apdu → Bool
     Counts view c = is_common view.port.session c && is_shared_command c
 
     not_counted : (c : Apdu) → is_shared_at (view_at state port) c ≡ false
@@ -419,7 +392,7 @@ module _ (port : ℕ) where
               (lines.Answered (number_in (view_at one port)) answer cause) ∷ [];
         }) (shared ∙ ap (λ (its : Bool). one.shared + count_if its) (sym none))
 
-    failed_local : (bytes : List ℕ) (c : Apdu) (answer : Answer) (cause : Option Cause)
+    pub failed_local : (bytes : List ℕ) (c : Apdu) (answer : Answer) (cause : Option Cause)
         (made : Made) → Spells bytes c → Counts (view_at state port) c ≡ false
         → made ≡ failed_command state port c answer cause
         → IsLocal state (events.Apdu port bytes) true made
@@ -431,7 +404,7 @@ module _ (port : ℕ) where
         uncounted (is ∙ sym (failed_is state c answer cause uncounted)) tt refl
 
     -- the steps of a load but its end
-    load_local_is : (step : LoadStep) (failed : Bool) (made : Made) → IsUnshared step
+    pub load_local_is : (step : LoadStep) (failed : Bool) (made : Made) → IsUnshared step
         → Happens failed state (events.Load port step) made
         → IsLocal state (events.Load port step) failed made
     load_local_is (steps.Begin metadata) false made unshared is =
@@ -458,7 +431,7 @@ module _ (port : ℕ) where
         (is ∙ sym (same_commits state _ _)) tt refl
     load_local_is steps.End true made unshared is = absurd unshared
 
-    reset_local : (made : Made) → made ≡ reset_made state port
+    pub reset_local : (made : Made) → made ≡ reset_made state port
         → IsLocal state (events.Reset port) false made
     reset_local made is =
         build state (events.Reset port) false made (λ view. record {
@@ -468,63 +441,7 @@ module _ (port : ℕ) where
         }) (λ view. Unit {0}) (λ one may. same_commits one _ _) tt
         (is ∙ sym (same_commits state _ _)) tt refl
 
-    -- a statement with which the count of shared statements stays is such a one
-    counted_bytes_local : (bytes : List ℕ) (made : Made) → AnswersBytes state port bytes made
-        → made.state.shared ≡ state.shared → IsLocal state (events.Apdu port bytes) false made
-    counted_bytes_local bytes made (inl spelled) stays =
-        command_is_local bytes spelled.0 made spelled.1
-        (not_counted_by state.shared (is_shared_at (view_at state port) spelled.0)
-        (sym (command_counts spelled.0) ∙ ap (λ (its : Made). its.state.shared) (sym spelled.2)
-        ∙ stays)) spelled.2
-    counted_bytes_local bytes made (inr none) stays = unspelled_local state bytes made none.0 none.1
-
-    counted_failed_local : (bytes : List ℕ) (made : Made)
-        → FailsWith state (events.Apdu port bytes) made → made.state.shared ≡ state.shared
-        → IsLocal state (events.Apdu port bytes) true made
-    counted_failed_local bytes made is stays =
-        failed_local bytes is.0 is.1 is.2 made is.3
-        (not_counted_by state.shared (Counts (view_at state port) is.0)
-        (ap (λ (its : Made). its.state.shared) (sym is.4) ∙ stays)) is.4
-
-    counted_step_local : (step : LoadStep) (failed : Bool) (made : Made)
-        → Happens failed state (events.Load port step) made → made.state.shared ≡ state.shared
-        → IsLocal state (events.Load port step) failed made
-    counted_step_local (steps.Begin metadata) failed made is stays =
-        load_local_is (steps.Begin metadata) failed made tt is
-    counted_step_local (steps.Piece piece) failed made is stays =
-        load_local_is (steps.Piece piece) failed made tt is
-    counted_step_local steps.End false made is stays =
-        let raised : made.state.shared ≡ state.shared + 1 =
-        ap (λ (its : Made). its.state.shared) is.2 in
-        absurd (omega (arith, raised, stays))
-    counted_step_local steps.End true made is stays =
-        let raised : made.state.shared ≡ state.shared + 1 =
-        ap (λ (its : Made). its.state.shared) is.1 in
-        absurd (omega (arith, raised, stays))
-
-    pub counted_local : (failed : Bool) (event : Event) (made : Made)
-        → is_for port event ≡ true → Happens failed state event made
-        → made.state.shared ≡ state.shared → IsLocal state event failed made
-    counted_local false (events.Apdu came bytes) made comes =
-        subst (λ (n : ℕ). Happens false state (events.Apdu n bytes) made
-        → made.state.shared ≡ state.shared → IsLocal state (events.Apdu n bytes) false made)
-        (sym (eqb-true came port comes)) (counted_bytes_local bytes made)
-    counted_local true (events.Apdu came bytes) made comes =
-        subst (λ (n : ℕ). Happens true state (events.Apdu n bytes) made
-        → made.state.shared ≡ state.shared → IsLocal state (events.Apdu n bytes) true made)
-        (sym (eqb-true came port comes)) (counted_failed_local bytes made)
-    counted_local false (events.Reset came) made comes =
-        subst (λ (n : ℕ). Happens false state (events.Reset n) made
-        → made.state.shared ≡ state.shared → IsLocal state (events.Reset n) false made)
-        (sym (eqb-true came port comes)) (λ is stays. reset_local made is)
-    counted_local true (events.Reset came) made comes = λ is. absurd is
-    counted_local failed (events.Load came step) made comes =
-        subst (λ (n : ℕ). Happens failed state (events.Load n step) made
-        → made.state.shared ≡ state.shared → IsLocal state (events.Load n step) failed made)
-        (sym (eqb-true came port comes)) (counted_step_local step failed made)
-    counted_local failed events.Power made comes = absurd cc
-
-    -- and so is one that stays at its port
+    -- a statement that stays at its port is such a one
     pub stays_local : (failed : Bool) (event : Event) (made : Made)
         → StaysAt port (view_at state port) event → Happens failed state event made
         → IsLocal state event failed made

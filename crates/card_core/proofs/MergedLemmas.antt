@@ -13,8 +13,9 @@ use Rattle.card_core.proofs.FollowLemmas.{is_made, next_is, then_good, turn_is}
 use Rattle.card_core.proofs.RankLemmas.{AtMost, IsWithin, Rank, each_given, each_two_given, each_two_with}
 use Rattle.card_core.proofs.RankLemmas.{each_weaker, flat_map_alike, sieve, sieved}
 use Rattle.card_core.proofs.ShownLemmas.{IsFit, IsGood, Runs, Shown}
-use Rattle.card_core.proofs.StatementLemmas.{its_port, own_first, own_rank}
-use Rattle.card_core.specs.Merge.{Lanes, is_one_of, line_phase, lines_of, maker_of, merge, phase_at}
+use Rattle.card_core.proofs.LineLemmas.{own_first, own_rank}
+use Rattle.card_core.proofs.StatementLemmas.{its_port}
+use Rattle.card_core.specs.Merge.{Lanes, is_made_by_one_of, line_phase, lines_of, maker_of, merge, phase_at}
 use Rattle.card_core.specs.Merge.{place_in_turn}
 use Rattle.card_core.specs.Stretch.{lines_at}
 use Rattle.card_core.specs.World.{WorldState}
@@ -135,16 +136,16 @@ both_plain false = refl
 
 -- which items of a run were shared
 one_of_append : (makers others : List Maker) (maker : Maker)
-    → is_one_of (makers ++ others) maker ≡ (is_one_of makers maker || is_one_of others maker)
+    → is_made_by_one_of (makers ++ others) maker ≡ (is_made_by_one_of makers maker || is_made_by_one_of others maker)
 one_of_append [] others maker = refl
 one_of_append (one ∷ makers) others maker =
     by (nat_eq one.port maker.port && nat_eq one.number maker.number)
     (one_of_append makers others maker)
   where
     by : (here : Bool)
-        → is_one_of (makers ++ others) maker ≡ (is_one_of makers maker || is_one_of others maker)
-        → (here || is_one_of (makers ++ others) maker)
-        ≡ ((here || is_one_of makers maker) || is_one_of others maker)
+        → is_made_by_one_of (makers ++ others) maker ≡ (is_made_by_one_of makers maker || is_made_by_one_of others maker)
+        → (here || is_made_by_one_of (makers ++ others) maker)
+        ≡ ((here || is_made_by_one_of makers maker) || is_made_by_one_of others maker)
     by true rest = refl
     by false rest = rest
 
@@ -179,31 +180,31 @@ module _ (one other : Shown) (follows : Follows one other) where
 
 of_item : (item : Shown) (maker : Maker) (here : Bool)
     → (nat_eq (its_port item.event) maker.port && nat_eq (number_of item) maker.number) ≡ here
-    → is_one_of (shared_of item) maker ≡ (nat_lt item.turn item.next && here)
+    → is_made_by_one_of (shared_of item) maker ≡ (nat_lt item.turn item.next && here)
 of_item item maker here is = by (nat_lt item.turn item.next)
   where
-    by : (shared : Bool) → is_one_of (cond shared (its_maker item ∷ []) []) maker
+    by : (shared : Bool) → is_made_by_one_of (cond shared (its_maker item ∷ []) []) maker
         ≡ (shared && here)
     by true = ap (λ (its : Bool). its || false) is ∙ or_false here
     by false = refl
 
 none_later : (item : Shown) (items : List Shown) → AllByRecursion (Follows item) items
-    → is_one_of (flat_map shared_of items) (its_maker item) ≡ false
+    → is_made_by_one_of (flat_map shared_of items) (its_maker item) ≡ false
 none_later item [] follows = refl
 none_later item (other ∷ items) follows =
     one_of_append (shared_of other) (flat_map shared_of items) (its_maker item)
-    ∙ ap (λ (its : Bool). its || is_one_of (flat_map shared_of items) (its_maker item))
+    ∙ ap (λ (its : Bool). its || is_made_by_one_of (flat_map shared_of items) (its_maker item))
     (of_item other (its_maker item) false (later_apart item other follows.0)
     ∙ and_false (nat_lt other.turn other.next))
     ∙ none_later item items follows.1
 
 pub marked : (items : List Shown) → EachTwo Follows items
-    → AllByRecursion (λ item. is_one_of (flat_map shared_of items) (its_maker item)
+    → AllByRecursion (λ item. is_made_by_one_of (flat_map shared_of items) (its_maker item)
     ≡ nat_lt item.turn item.next) items
 marked [] follows = tt
 marked (item ∷ items) follows = (
   one_of_append (shared_of item) (flat_map shared_of items) (its_maker item)
-      ∙ ap (λ (its : Bool). is_one_of (shared_of item) (its_maker item) || its)
+      ∙ ap (λ (its : Bool). is_made_by_one_of (shared_of item) (its_maker item) || its)
       (none_later item items follows.0)
       ∙ ap (λ (its : Bool). its || false)
       (of_item item (its_maker item) true (itself (its_port item.event) (number_of item)))
@@ -217,15 +218,15 @@ marked (item ∷ items) follows = (
         ∙ eq-eqb number number refl
 
     later : (others : List Shown) → AllByRecursion (Follows item) others
-        → AllByRecursion (λ other. is_one_of (flat_map shared_of items) (its_maker other)
+        → AllByRecursion (λ other. is_made_by_one_of (flat_map shared_of items) (its_maker other)
         ≡ nat_lt other.turn other.next) others
         → AllByRecursion (λ other.
-        is_one_of (shared_of item ++ flat_map shared_of items) (its_maker other)
+        is_made_by_one_of (shared_of item ++ flat_map shared_of items) (its_maker other)
         ≡ nat_lt other.turn other.next) others
     later [] its are = tt
     later (other ∷ others) its are = (
       one_of_append (shared_of item) (flat_map shared_of items) (its_maker other)
-          ∙ ap (λ (its : Bool). its || is_one_of (flat_map shared_of items) (its_maker other))
+          ∙ ap (λ (its : Bool). its || is_made_by_one_of (flat_map shared_of items) (its_maker other))
           (of_item item (its_maker other) false (earlier_apart item other its.0)
           ∙ and_false (nat_lt item.turn item.next))
           ∙ are.0,
@@ -264,16 +265,16 @@ module _ (count : ℕ) where
   turns_within [] state after good fit runs = tt
   turns_within (item ∷ items) state after good fit runs = (
     let before : item.turn ≡ state.shared =
-    turn_is count state item items after good fit.0 runs in omega (arith, before),
+        turn_is count state item items after good fit.0 runs in omega (arith, before),
     each_weaker (λ one. one.turn ≤ runs.0.state.shared + length (flat_map shared_of items))
-    (λ one. one.turn ≤ state.shared + length (flat_map shared_of (item ∷ items)))
-    (λ one less.
-    let more : runs.0.state.shared ≡ state.shared + length (shared_of item) =
-    raised state item items after good fit.0 runs in
-    let all : length (flat_map shared_of (item ∷ items))
-    ≡ length (shared_of item) + length (flat_map shared_of items) =
-    length-append (shared_of item) (flat_map shared_of items) in
-    omega (arith, less, more, all)) items
-    (turns_within items runs.0.state after
-    (then_good count state item items after good fit.0 runs) fit.1 runs.3),
+        (λ one. one.turn ≤ state.shared + length (flat_map shared_of (item ∷ items)))
+        (λ one less.
+        let more : runs.0.state.shared ≡ state.shared + length (shared_of item) =
+        raised state item items after good fit.0 runs in
+        let all : length (flat_map shared_of (item ∷ items))
+        ≡ length (shared_of item) + length (flat_map shared_of items) =
+        length-append (shared_of item) (flat_map shared_of items) in
+        omega (arith, less, more, all)) items
+        (turns_within items runs.0.state after
+        (then_good count state item items after good fit.0 runs) fit.1 runs.3),
   )

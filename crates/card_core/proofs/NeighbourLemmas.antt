@@ -14,7 +14,8 @@ use Rattle.record_codec.specs.declared.durable.Heads.{Heads}
 use Rattle.record_codec.specs.declared.profile.ProfileHead.{ProfileHead}
 use Rattle.card_core.proofs.AloneLemmas.{one_port}
 use Rattle.card_core.proofs.CameLemmas.{state_with}
-use Rattle.card_core.proofs.LocalLemmas.{IsLocal, IsOwnLine, LocalMade, counted_local, local_made}
+use Rattle.card_core.proofs.CountedLemmas.{counted_local}
+use Rattle.card_core.proofs.LocalLemmas.{IsLocal, IsOwnLine, LocalMade, local_made}
 use Rattle.card_core.proofs.LocalLemmas.{stays_local}
 use Rattle.card_core.proofs.SoundLemmas.{sound_card}
 use Rattle.card_core.proofs.SoundLoadLemmas.{changed_are}

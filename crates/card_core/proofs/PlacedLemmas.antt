@@ -10,8 +10,9 @@ use Rattle.card_core.proofs.MergedLemmas.{line_ranks, marked}
 use Rattle.card_core.proofs.RankLemmas.{AtMost, IsWithin, each_given, each_two_given, each_two_with}
 use Rattle.card_core.proofs.RankLemmas.{each_weaker, sieve, sieved}
 use Rattle.card_core.proofs.ShownLemmas.{Shown}
-use Rattle.card_core.proofs.StatementLemmas.{its_port, own_first, own_rank}
-use Rattle.card_core.specs.Merge.{is_one_of, line_phase, maker_of, phase_at, place_in_turn}
+use Rattle.card_core.proofs.LineLemmas.{own_first, own_rank}
+use Rattle.card_core.proofs.StatementLemmas.{its_port}
+use Rattle.card_core.specs.Merge.{is_made_by_one_of, line_phase, maker_of, phase_at, place_in_turn}
 use Rattle.card_core.specs.declared.entry.Entry.{Entry}
 use Rattle.card_core.specs.declared.entry.Maker.{Maker}
 use Rattle.card_core.specs.declared.event.Event.{Event}
@@ -44,7 +45,7 @@ module _ (phases : List (List Event)) (count : ℕ) (shared : List Maker) where
   ranked false = refl
 
   place_is : (item : Shown) (entry : Entry) → maker_of entry ≡ its_maker item
-      → is_one_of shared (its_maker item) ≡ nat_lt item.turn item.next
+      → is_made_by_one_of shared (its_maker item) ≡ nat_lt item.turn item.next
       → place_in_turn shared entry ≡ place_by item entry
   place_is item entry maker mark =
       ap placed maker
@@ -59,7 +60,7 @@ module _ (phases : List (List Event)) (count : ℕ) (shared : List Maker) where
       at here = cond here 1 2
 
       placed : Maker → ℕ
-      placed its = cond (is_one_of shared its) (cond (nat_eq its.port entry.port) 1 2) 0
+      placed its = cond (is_made_by_one_of shared its) (cond (nat_eq its.port entry.port) 1 2) 0
 
   own_port : (item : Shown) → IsTold count item → item.next ≡ item.turn
       → AllByRecursion (λ entry. entry.port ≡ its_port item.event) item.entries
@@ -71,7 +72,7 @@ module _ (phases : List (List Event)) (count : ℕ) (shared : List Maker) where
 
   -- the lines of an item
   placed : (item : Shown) → IsTold count item
-      → is_one_of shared (its_maker item) ≡ nat_lt item.turn item.next
+      → is_made_by_one_of shared (its_maker item) ≡ nat_lt item.turn item.next
       → AllByRecursion (IsPlaced item) item.entries
   placed item told mark =
       by item.entries told.lines (elim told.shared [
@@ -211,23 +212,31 @@ module _ (phases : List (List Event)) (count : ℕ) (shared : List Maker) where
         by : AtMost (item_ranks phases) one other → InOrder line its
         by (inl less) = inl (omega (arith, less, phase_one, phase_other))
         by (inr (same, inl less)) =
-            inr (omega (arith, same, phase_one, phase_other),
-            inl (omega (arith, less, turn_one, turn_other)))
+            inr (
+              omega (arith, same, phase_one, phase_other),
+              inl (omega (arith, less, turn_one, turn_other)),
+            )
         by (inr (same, inr (turn, inl less))) =
             let unshared : one.next ≡ one.turn = omega (arith, turn, later, first_most) in
             let marked : other.turn < other.next = omega (arith, less, unshared, turn) in
             let none : place_in_turn shared line ≡ 0 = unplaced one line at unshared in
             let some : 0 < place_in_turn shared its = is_placed other its there marked in
-            inr (omega (arith, same, phase_one, phase_other),
-            inr (omega (arith, turn, turn_one, turn_other), inl (omega (arith, none, some))))
+            inr (
+              omega (arith, same, phase_one, phase_other),
+              inr (omega (arith, turn, turn_one, turn_other), inl (omega (arith, none, some))),
+            )
         by (inr (same, inr (turn, inr (next, rest)))) =
             let unshared : one.next ≡ one.turn = omega (arith, turn, later, first_most) in
             let neither : other.next ≡ other.turn = omega (arith, unshared, turn, next) in
             let none : place_in_turn shared line ≡ 0 = unplaced one line at unshared in
             let also : place_in_turn shared its ≡ 0 = unplaced other its there neither in
-            inr (omega (arith, same, phase_one, phase_other),
-            inr (omega (arith, turn, turn_one, turn_other),
-            inr (none ∙ sym also, by_port (at.own unshared) (there.own neither) rest)))
+            inr (
+              omega (arith, same, phase_one, phase_other),
+              inr (
+                omega (arith, turn, turn_one, turn_other),
+                inr (none ∙ sym also, by_port (at.own unshared) (there.own neither) rest),
+              ),
+            )
           where
             by_port : line.port ≡ its_port one.event → its.port ≡ its_port other.event
                 → AtMost (record { of = λ (item : Shown). its_port item.event; below = 0 } ∷ [])
@@ -249,7 +258,7 @@ module _ (phases : List (List Event)) (count : ℕ) (items : List Shown)
   all_lines = flat_map (λ item. item.entries) items
 
   places : (some : List Shown) → AllByRecursion (IsTold count) some
-      → AllByRecursion (λ item. is_one_of all_shared (its_maker item)
+      → AllByRecursion (λ item. is_made_by_one_of all_shared (its_maker item)
       ≡ nat_lt item.turn item.next) some
       → AllByRecursion (λ item. AllByRecursion (IsPlaced phases count all_shared item) item.entries)
       some
@@ -314,19 +323,18 @@ module _ (phases : List (List Event)) (count : ℕ) (items : List Shown)
       by [] at below few = tt
       by (item ∷ some) at below few = (
         each_weaker (IsPlaced phases count all_shared item)
-        (IsWithin (line_ranks phases all_shared count))
-        (λ entry its.
-        let phase : line_phase phases entry ≡ item_phase phases item = its.phase in
-        let less : item_phase phases item < length phases = below.0 in
-        let turn : entry.turn ≡ item.turn = its.turn in
-        let most : item.turn ≤ length all_shared = few.0 in
-        let place : place_in_turn all_shared entry ≡ place_by item entry = its.place in
-        let two : place_by item entry ≤ 2 = place_most (nat_lt item.turn item.next)
-        (nat_eq (its_port item.event) entry.port) in
-        (
-          omega (arith, phase, less),
-          (omega (arith, turn, most), (omega (arith, place, two), (its.within, tt))),
-        )) item.entries at.0,
+            (IsWithin (line_ranks phases all_shared count))
+            (λ entry its.
+            let phase : line_phase phases entry ≡ item_phase phases item = its.phase in
+            let less : item_phase phases item < length phases = below.0 in
+            let turn : entry.turn ≡ item.turn = its.turn in
+            let most : item.turn ≤ length all_shared = few.0 in
+            let place : place_in_turn all_shared entry ≡ place_by item entry = its.place in
+            let two : place_by item entry ≤ 2 = place_most (nat_lt item.turn item.next)
+            (nat_eq (its_port item.event) entry.port) in (
+              omega (arith, phase, less),
+              (omega (arith, turn, most), (omega (arith, place, two), (its.within, tt))),
+            )) item.entries at.0,
         by some at.1 below.1 few.1,
       )
 

@@ -167,10 +167,10 @@ module _ {X : Type 0} (rank : Rank X) (ranks : List (Rank X)) where
           → EachTwo (AtMost ranks) (cond here (x ∷ of_number rank.of n xs) (of_number rank.of n xs))
       by true is rest = (
         each_weaker (λ y. AtMost (rank ∷ ranks) x y × (nat_eq (rank.of y) n ≡ true))
-        (AtMost ranks x)
-        (λ y its. further n x y (eqb-true (rank.of x) n is) (eqb-true (rank.of y) n its.1) its.0)
-        (of_number rank.of n xs)
-        (each_filter (AtMost (rank ∷ ranks) x) (λ y. nat_eq (rank.of y) n) xs order.0),
+            (AtMost ranks x)
+            (λ y its. further n x y (eqb-true (rank.of x) n is) (eqb-true (rank.of y) n its.1) its.0)
+            (of_number rank.of n xs)
+            (each_filter (AtMost (rank ∷ ranks) x) (λ y. nat_eq (rank.of y) n) xs order.0),
         rest,
       )
       by false is rest = rest

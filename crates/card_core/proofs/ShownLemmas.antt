@@ -6,7 +6,8 @@ use Rattle.std.specs.List.{AllByRecursion}
 use Rattle.record_codec.specs.IsDurable.{IsDurable}
 use Rattle.record_codec.specs.declared.durable.Heads.{Heads}
 use Rattle.card_core.proofs.AloneRunLemmas.{happens_keeps}
-use Rattle.card_core.proofs.LocalLemmas.{IsLocal, counted_local}
+use Rattle.card_core.proofs.CountedLemmas.{counted_local}
+use Rattle.card_core.proofs.LocalLemmas.{IsLocal}
 use Rattle.card_core.proofs.NeighbourLemmas.{Changed, places_change_counted}
 use Rattle.card_core.proofs.SoundLemmas.{happens_sound, sound_card}
 use Rattle.card_core.proofs.StatementLemmas.{IsStatementMade, its_port, statement_made}

@@ -123,12 +123,11 @@ module _ {X : Type 0} (ranks : List (Rank X)) where
       by true is rest =
           (put_each (AtMost ranks y) x ys (before_is ranks y x is) order.0, rest)
       by false is rest =
-          let most : AtMost ranks x y = not_before_is ranks y x is in
-          (
+          let most : AtMost ranks x y = not_before_is ranks y x is in (
             (
               most,
               each_weaker (AtMost ranks y) (AtMost ranks x)
-              (λ z its. most_trans ranks x y z most its) ys order.0,
+                  (λ z its. most_trans ranks x y z most its) ys order.0,
             ),
             order,
           )

@@ -22,6 +22,9 @@ use Rattle.record_codec.specs.declared.durable.Durable.{Durable}
 use Rattle.card_core.proofs.CameLemmas.{state_with}
 use Rattle.card_core.proofs.CardStepLemmas.{there}
 use Rattle.card_core.proofs.CarriedLemmas.{IsCarried, desk_carried}
+use Rattle.card_core.proofs.LineLemmas.{IsToldAt, ResetsBelow, away_alike, lsi_below, other_told}
+use Rattle.card_core.proofs.LineLemmas.{others_by_port, own_before, own_first, own_maker, own_then}
+use Rattle.card_core.proofs.LineLemmas.{own_told}
 use Rattle.card_core.proofs.LocalLemmas.{IsOwnLine}
 use Rattle.card_core.proofs.RankLemmas.{AtMost, Rank, each_given, each_joined, each_two_append}
 use Rattle.card_core.proofs.RankLemmas.{each_two_given, each_weaker}
@@ -60,16 +63,6 @@ its_port (events.Reset port) = port
 its_port (events.Load port step) = port
 its_port events.Power = 0
 
-abbrev pub own_rank : Bool → ℕ
-own_rank true = 1
-own_rank false = 2
-
--- lines about a port first, and then those about others from the lowest on
-abbrev pub own_first : ℕ → List (Rank Entry)
-own_first port =
-    record { of = λ entry. own_rank (nat_eq port entry.port); below = 3 }
-    ∷ record { of = λ entry. entry.port; below = 0 } ∷ []
-
 -- a line that a statement at a port made on a card
 pub record IsLineOf (port : ℕ) (state : WorldState) (entry : Entry) : Type 0 where
   pub turn : entry.turn ≡ state.shared
@@ -82,18 +75,6 @@ pub record IsStatementMade (port : ℕ) (state : WorldState) (made : Made) : Typ
   pub counts : (number : ℕ) → (port_in made.state number).statements
       ≡ (port_in state number).statements + count_if (nat_eq number port)
   pub shared : (made.state.shared ≡ state.shared) ⊎ (made.state.shared ≡ state.shared + 1)
-
-own_maker : (port number : ℕ) (line : Line) → IsOwnLine number line
-    → maker_at port line ≡ record { port = port; number = number }
-own_maker port number (lines.Answered its answer cause) is =
-    ap (λ (n : ℕ). record { port = port; number = n }) is
-own_maker port number (lines.OwnReset its) is =
-    ap (λ (n : ℕ). record { port = port; number = n }) is
-own_maker port number (lines.Loaded its outcome) is =
-    ap (λ (n : ℕ). record { port = port; number = n }) is
-own_maker port number (lines.ForeignReset maker) is = absurd is
-own_maker port number (lines.Unbound profile refresh kept maker commit) is = absurd is
-own_maker port number (lines.Bound profile refresh kept maker commit) is = absurd is
 
 -- one more statement at the port that is put
 put_counts : (ports : List PortState) (port : ℕ) (put : PortState) → port < length ports
@@ -131,162 +112,6 @@ moved_alike : (kept : Option ℕ) (move : Option Move) (port : PortState)
     → (port_moved kept move port).statements ≡ port.statements
 moved_alike kept None port = refl
 moved_alike kept (Some move) port = refl
-
--- a MANAGE LSI resets a port of the card
-abbrev ResetsBelow : ℕ → Result Lsi Sw → Type 0
-ResetsBelow count (Ok lsi.Count) = Unit {0}
-ResetsBelow count (Ok (lsi.Reset port)) = port < count
-ResetsBelow count (Err sw) = Unit {0}
-
-abbrev AsksBelow : ℕ → Option Lsi → Type 0
-AsksBelow count None = Unit {0}
-AsksBelow count (Some lsi.Count) = Unit {0}
-AsksBelow count (Some (lsi.Reset port)) = port < count
-
-done_below : (count : ℕ) (refusal : Option Sw) (its : Lsi) → AsksBelow count (Some its)
-    → ResetsBelow count (done_unless refusal its)
-done_below count None lsi.Count below = tt
-done_below count None (lsi.Reset port) below = below
-done_below count (Some sw) its below = tt
-
-asked_below : (c : Apdu) (count : ℕ) (asked : Option Lsi) → AsksBelow count asked
-    → ResetsBelow count (asked_in_form c count asked)
-asked_below c count None below = tt
-asked_below c count (Some its) below = done_below count (form_refusal_of c count its) its below
-
-asks_below : (c : Apdu) (count : ℕ) → AsksBelow count (lsi_asked c count)
-asks_below c count =
-    by (nat_eq c.p1 0x00 && nat_eq c.p2 0x00) (nat_eq c.p1 0x01) (nat_lt c.p2 count) refl
-  where
-    by : (counts resets less : Bool) → nat_lt c.p2 count ≡ less
-        → AsksBelow count (cond counts (Some lsi.Count)
-        (cond (resets && less) (Some (lsi.Reset c.p2)) None))
-    by true resets less is = tt
-    by false true true is = ltb-true c.p2 count is
-    by false true false is = tt
-    by false false less is = tt
-
-lsi_below : (c : Apdu) (count : ℕ) → ResetsBelow count (lsi_of c count)
-lsi_below c count = by (has_class_80 c)
-  where
-    by : (special : Bool) → ResetsBelow count (cond special
-        (asked_in_form c count (lsi_asked c count)) (Err WRONG_CLASS))
-    by true = asked_below c count (lsi_asked c count) (asks_below c count)
-    by false = tt
-
-module _ (port : ℕ) where
-  -- lines about the port itself
-  both_own : (one other : Entry) → one.port ≡ port → other.port ≡ port
-      → AtMost (own_first port) one other
-  both_own one other is its =
-      let first : (n : ℕ) → n ≡ port → own_rank (nat_eq port n) ≡ 1 =
-      λ n same. ap own_rank (eq-eqb port n (sym same)) in
-      inr (first one.port is ∙ sym (first other.port its), inr (is ∙ sym its, tt))
-
-  own_before : (one other : Entry) → one.port ≡ port → other.port ≢ port
-      → AtMost (own_first port) one other
-  own_before one other is apart =
-      let first : own_rank (nat_eq port one.port) ≡ 1 =
-      ap own_rank (eq-eqb port one.port (sym is)) in
-      let second : own_rank (nat_eq port other.port) ≡ 2 =
-      ap own_rank (ne_eqb port other.port (λ same. apart (sym same))) in
-      inl (omega (arith, first, second))
-
-  others_by_port : (one other : Entry) → one.port ≢ port → other.port ≢ port
-      → one.port < other.port → AtMost (own_first port) one other
-  others_by_port one other apart away less =
-      let second : (n : ℕ) → n ≢ port → own_rank (nat_eq port n) ≡ 2 =
-      λ n differs. ap own_rank
-      (ne_eqb port n (λ same. differs (sym same))) in
-      inr (second one.port apart ∙ sym (second other.port away), inl less)
-
-  away_alike : (one other : Entry) → one.port ≢ port → other.port ≢ port → one.port ≡ other.port
-      → AtMost (own_first port) one other
-  away_alike one other apart away same =
-      let second : (n : ℕ) → n ≢ port → own_rank (nat_eq port n) ≡ 2 =
-      λ n differs. ap own_rank
-      (ne_eqb port n (λ same. differs (sym same))) in
-      inr (second one.port apart ∙ sym (second other.port away), inr (same, tt))
-
-  all_own : (entries : List Entry) → AllByRecursion (λ entry. entry.port ≡ port) entries
-      → EachTwo (AtMost (own_first port)) entries
-  all_own [] each = tt
-  all_own (entry ∷ entries) each = (
-    each_weaker (λ other. other.port ≡ port) (AtMost (own_first port) entry)
-    (λ other is. both_own entry other each.0 is) entries each.1,
-    all_own entries each.1,
-  )
-
-  -- the lines about the port first
-  own_then : (own others : List Entry) → AllByRecursion (λ entry. entry.port ≡ port) own
-      → AllByRecursion (λ entry. entry.port ≢ port) others
-      → EachTwo (AtMost (own_first port)) others → EachTwo (AtMost (own_first port)) (own ++ others)
-  own_then own others here away order =
-      each_two_append (AtMost (own_first port)) own others (all_own own here) order
-      (each_weaker (λ entry. entry.port ≡ port)
-      (λ one. AllByRecursion (AtMost (own_first port) one) others)
-      (λ one is. each_weaker (λ entry. entry.port ≢ port) (AtMost (own_first port) one)
-      (λ other apart. own_before one other is apart) others away) own here)
-
--- the lines about a move
-module _ (telling : Telling) where
-  pub record IsToldAt (port : ℕ) (entry : Entry) : Type 0 where
-    pub at : entry.port ≡ port
-    pub turn : entry.turn ≡ telling.turn
-    pub maker : maker_of entry ≡ telling.by
-
-  line_about : (port : ℕ) (line : Line) → maker_at port line ≡ telling.by
-      → IsToldAt port (record { turn = telling.turn; port = port; line = line })
-  line_about port line is = record { at = refl; turn = refl; maker = is }
-
-  unbound_told : (move : Move) (left : Option ℕ)
-      → AllByRecursion (IsToldAt move.port) (unbound_line telling move left)
-  unbound_told move None = tt
-  unbound_told move (Some profile) = (record { at = refl; turn = refl; maker = refl }, tt)
-
-  bound_told : (move : Move) (came : Option ℕ)
-      → AllByRecursion (IsToldAt move.port) (bound_line telling move came)
-  bound_told move None = tt
-  bound_told move (Some profile) = (record { at = refl; turn = refl; maker = refl }, tt)
-
-  move_told : (move : Move) → AllByRecursion (IsToldAt move.port) (move_lines telling move)
-  move_told move =
-      each_joined (IsToldAt move.port) (unbound_line telling move move.leaves)
-      (bound_line telling move move.comes) (unbound_told move move.leaves)
-      (bound_told move move.comes)
-
-  own_told : (move : Move)
-      → AllByRecursion (λ entry. IsToldAt move.port entry × (entry.port ≡ telling.by.port))
-      (own_move_lines telling move)
-  own_told move = by (nat_eq move.port telling.by.port) refl
-    where
-      by : (here : Bool) → nat_eq move.port telling.by.port ≡ here
-          → AllByRecursion (λ entry. IsToldAt move.port entry × (entry.port ≡ telling.by.port))
-          (cond here (move_lines telling move) [])
-      by true is =
-          each_weaker (IsToldAt move.port)
-          (λ entry. IsToldAt move.port entry × (entry.port ≡ telling.by.port))
-          (λ entry told. (told, told.at ∙ eqb-true move.port telling.by.port is))
-          (move_lines telling move) (move_told move)
-      by false is = tt
-
-  other_told : (move : Move)
-      → AllByRecursion (λ entry. IsToldAt move.port entry × (entry.port ≢ telling.by.port))
-      (other_move_lines telling move)
-  other_told move = by (nat_eq move.port telling.by.port) refl
-    where
-      by : (here : Bool) → nat_eq move.port telling.by.port ≡ here
-          → AllByRecursion (λ entry. IsToldAt move.port entry × (entry.port ≢ telling.by.port))
-          (cond here [] (move_lines telling move))
-      by true is = tt
-      by false is =
-          each_weaker (IsToldAt move.port)
-          (λ entry. IsToldAt move.port entry × (entry.port ≢ telling.by.port))
-          (λ entry told. (
-            told,
-            λ same. eqb-false move.port telling.by.port is (sym told.at ∙ same),
-          ))
-          (move_lines telling move) (move_told move)
 
 module _ (state : WorldState) (sound : IsSoundState state) (port : ℕ)
     (below : port < state.durable.heads.ports.count) where
@@ -353,8 +178,8 @@ module _ (state : WorldState) (sound : IsSoundState state) (port : ℕ)
       before true is = tt
       before false is = (
         own_before port (entry_at state port (lines.Answered number (status_alone OK) None))
-        (entry_at state other (lines.ForeignReset (next_maker state port))) refl
-        (eqb-false other port is),
+            (entry_at state other (lines.ForeignReset (next_maker state port))) refl
+            (eqb-false other port is),
         tt,
       )
 
@@ -412,17 +237,17 @@ module _ (state : WorldState) (sound : IsSoundState state) (port : ℕ)
     lines_within f told [] each = tt
     lines_within f told (move ∷ moves) each = (
       each_weaker (IsToldAt telling move.port) (IsLineOf port state)
-      (λ entry its. record {
-        turn = its.turn;
-        maker = its.maker;
-        within =
-            let on : move.port < length state.durable.heads.ports.on =
-            slice_get_within state.durable.heads.ports.on move.port move.leaves each.0.left in
-            let places : length state.durable.heads.ports.on
-            ≡ state.durable.heads.ports.count = sound.are.heads.ports.rule.count in
-            let at : entry.port ≡ move.port = its.at in
-            omega (arith, on, places, at);
-      }) (f move) (told move),
+          (λ entry its. record {
+            turn = its.turn;
+            maker = its.maker;
+            within =
+                let on : move.port < length state.durable.heads.ports.on =
+                slice_get_within state.durable.heads.ports.on move.port move.leaves each.0.left in
+                let places : length state.durable.heads.ports.on
+                ≡ state.durable.heads.ports.count = sound.are.heads.ports.rule.count in
+                let at : entry.port ≡ move.port = its.at in
+                omega (arith, on, places, at);
+          }) (f move) (told move),
       lines_within f told moves each.1,
     )
 
@@ -437,8 +262,8 @@ module _ (state : WorldState) (sound : IsSoundState state) (port : ℕ)
         by [] = tt
         by (move ∷ moves) = (
           each_weaker (λ entry. IsToldAt telling move.port entry × (entry.port ≡ port))
-          (λ entry. entry.port ≡ port) (λ entry its. its.1) (own_move_lines telling move)
-          (own_told telling move),
+              (λ entry. entry.port ≡ port) (λ entry its. its.1) (own_move_lines telling move)
+              (own_told telling move),
           by moves,
         )
 
@@ -453,8 +278,8 @@ module _ (state : WorldState) (sound : IsSoundState state) (port : ℕ)
         by [] = tt
         by (move ∷ moves) = (
           each_weaker (λ entry. IsToldAt telling move.port entry × (entry.port ≢ port))
-          (λ entry. entry.port ≢ port) (λ entry its. its.1) (other_move_lines telling move)
-          (other_told telling move),
+              (λ entry. entry.port ≢ port) (λ entry its. its.1) (other_move_lines telling move)
+              (other_told telling move),
           by moves,
         )
 
@@ -484,9 +309,9 @@ module _ (state : WorldState) (sound : IsSoundState state) (port : ℕ)
         two [] = tt
         two (move ∷ moves) = (
           same_port (other_move_lines telling move) move.port
-          (each_weaker (ToldAway move) (λ entry. (entry.port ≡ move.port) × (entry.port ≢ port))
-          (λ entry its. (its.0.at, its.1)) (other_move_lines telling move)
-          (other_told telling move)),
+              (each_weaker (ToldAway move) (λ entry. (entry.port ≡ move.port) × (entry.port ≢ port))
+              (λ entry its. (its.0.at, its.1)) (other_move_lines telling move)
+              (other_told telling move)),
           two moves,
         )
           where
@@ -496,19 +321,22 @@ module _ (state : WorldState) (sound : IsSoundState state) (port : ℕ)
             same_port [] at its = tt
             same_port (entry ∷ entries) at its = (
               each_weaker (λ other. (other.port ≡ at) × (other.port ≢ port))
-              (AtMost (own_first port) entry)
-              (λ other is. away_alike port entry other its.0.1 is.1 (its.0.0 ∙ sym is.0)) entries
-              its.1,
+                  (AtMost (own_first port) entry)
+                  (λ other is. away_alike port entry other its.0.1 is.1 (its.0.0 ∙ sym is.0)) entries
+                  its.1,
               same_port entries at its.1,
             )
 
     isdr_statement : IsStatementMade port state (isdr_made state port c)
     isdr_statement = record {
-      lines = (own_line _ refl, each_joined (IsLineOf port state) own others
-          (each_given (IsLineOf port state) (own_move_lines telling) outcome.moves
-          (lines_within (own_move_lines telling) own_told_at outcome.moves carried.moves.each))
-          (each_given (IsLineOf port state) (other_move_lines telling) outcome.moves
-          (lines_within (other_move_lines telling) other_told_at outcome.moves carried.moves.each)));
+      lines = (
+        own_line _ refl,
+        each_joined (IsLineOf port state) own others
+            (each_given (IsLineOf port state) (own_move_lines telling) outcome.moves
+            (lines_within (own_move_lines telling) own_told_at outcome.moves carried.moves.each))
+            (each_given (IsLineOf port state) (other_move_lines telling) outcome.moves
+            (lines_within (other_move_lines telling) other_told_at outcome.moves carried.moves.each)),
+      );
       order = own_then port (answer ∷ own) others (refl, own_here) others_away others_order;
       counts = λ place.
           each_alike change (λ at its. moved_alike (kept_on port c.channel at)

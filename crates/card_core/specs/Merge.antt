@@ -42,15 +42,15 @@ phase_at (phase ∷ phases) port number =
 abbrev pub line_phase : List (List Event) → Entry → ℕ
 line_phase phases entry = phase_at phases (maker_of entry).port (maker_of entry).number
 
-abbrev pub is_one_of : List Maker → Maker → Bool
-is_one_of makers maker =
+abbrev pub is_made_by_one_of : List Maker → Maker → Bool
+is_made_by_one_of makers maker =
     list_any (λ its. (its.port == maker.port) && (its.number == maker.number)) makers
 
 -- where in its turn a line stands: 0 of no shared statement, 1 of the shared one at that one's own
 -- port, 2 of it at another
 abbrev pub place_in_turn : List Maker → Entry → ℕ
 place_in_turn shared entry =
-    if is_one_of shared (maker_of entry)
+    if is_made_by_one_of shared (maker_of entry)
     then (if (maker_of entry).port == entry.port then 1 else 2) else 0
 
 -- the lines of a log that have this phase, this turn and this place in it

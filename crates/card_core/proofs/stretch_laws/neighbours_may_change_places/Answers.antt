@@ -1,4 +1,5 @@
-use Rattle.card_core.proofs.LocalLemmas.{counted_local, stays_local}
+use Rattle.card_core.proofs.CountedLemmas.{counted_local}
+use Rattle.card_core.proofs.LocalLemmas.{stays_local}
 use Rattle.card_core.proofs.NeighbourLemmas.{places_change_counted, places_change_staying}
 use Rattle.card_core.proofs.SoundLemmas.{sound_card}
 use Rattle.card_core.proofs.stretch_laws.neighbours_may_change_places.Goals as goal

@@ -1,4 +1,5 @@
-use Rattle.card_core.proofs.LocalLemmas.{counted_local, stays_local}
+use Rattle.card_core.proofs.CountedLemmas.{counted_local}
+use Rattle.card_core.proofs.LocalLemmas.{stays_local}
 use Rattle.card_core.proofs.SoundLemmas.{sound_card}
 use Rattle.card_core.proofs.StretchLemmas.{local_stays}
 use Rattle.card_core.proofs.stretch_laws.unshared_statements_stay_at_their_port.Goals as goal
