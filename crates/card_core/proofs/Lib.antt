@@ -47,5 +47,6 @@ pub mod StepsLemmas
 pub mod StoodLemmas
 pub mod StretchLemmas
 pub mod StretchRunLemmas
+pub mod ToldLemmas
 pub mod WholeLemmas
 pub mod WithinLemmas

@@ -4,6 +4,7 @@ pub mod DeskOutcome
 pub mod Exchange
 pub mod Merge
 pub mod GetResponse
+pub mod Lines
 pub mod Listing
 pub mod Port
 pub mod Recorded
