@@ -1,12 +1,12 @@
 -- A run brought in the order of phases, turns and ports by neighbours that change places.
-use Rattle.std.proofs.Common.{◌≡◌, ◌≢◌, ◌⊎◌, ◌<◌, ◌≤◌, ◌+◌, ℕ, Bool, true, false, cond, nat_eq, nat_lt}
-use Rattle.std.proofs.Common.{List, [], ◌∷◌, ◌++◌, filter, flat_map, length, map, refl, sym, ◌∙◌, ap}
-use Rattle.std.proofs.Common.{subst, arith, inl, inr, append-nil, eqb-true}
+use Rattle.std.proofs.Common.{◌≡◌, ◌≢◌, ◌⊎◌, ◌≤◌, ℕ, Bool, true, false, cond, nat_eq, nat_lt}
+use Rattle.std.proofs.Common.{List, [], ◌∷◌, ◌++◌, refl, sym, ◌∙◌, ap}
+use Rattle.std.proofs.Common.{arith, inl, inr, append-nil, eqb-true}
 use Rattle.std.proofs.lemmas.Bool.{eqb-false, le-ltb, ne_eqb}
 use Rattle.std.specs.List.{AllByRecursion}
 use Rattle.plain_lists.specs.EachTwo.{EachTwo}
 use Rattle.card_core.proofs.FollowLemmas.{Follows, HasOneLine, IsTold, its_maker, number_of}
-use Rattle.card_core.proofs.RankLemmas.{AtMost, Rank, each_two_with, each_weaker}
+use Rattle.card_core.proofs.RankLemmas.{Rank}
 use Rattle.card_core.proofs.ShownLemmas.{IsFit, IsGood, MaySwap, Runs, Shown, good_after, runs_swapped}
 use Rattle.card_core.proofs.SortLemmas.{IsLess, before_less, in_order, is_before, order_each, put}
 use Rattle.card_core.proofs.StatementLemmas.{its_port}

@@ -1,50 +1,26 @@
 -- A statement with which the count of shared statements stays looks at its own port alone.
-use Rattle.std.proofs.Common.{◌≡◌, ◌+◌, ℕ, Bool, true, false, cond, nat_eq, List, [], ◌∷◌}
-use Rattle.std.proofs.Common.{Option, Some, None, Result, Ok, Err, refl, sym, ◌∙◌, ap, subst, arith}
+use Rattle.std.proofs.Common.{◌≡◌, ◌+◌, ℕ, Bool, true, false, cond, nat_eq, List}
+use Rattle.std.proofs.Common.{Result, Ok, Err, refl, sym, ◌∙◌, ap, subst, arith}
 use Rattle.std.proofs.Common.{inl, inr, eqb-true}
-use Rattle.std.specs.Prelude.{◌&&◌, IfSome, is_some, option_map, slice_set}
-use Rattle.apdu_codec.specs.Answer.{status_alone}
-use Rattle.apdu_codec.specs.Command.{Apdu, Spells, refusal}
-use Rattle.apdu_codec.specs.declared.answers.Answer.{Answer}
+use Rattle.std.specs.Prelude.{◌&&◌}
+use Rattle.apdu_codec.specs.Command.{Apdu}
 use Rattle.apdu_codec.specs.declared.status.Sw.{Sw}
-use Rattle.apdu_codec.specs.declared.status.TheConstants.Sw.{OK, WRONG_INSTRUCTION}
-use Rattle.file_rows.specs.Change.{Fits}
-use Rattle.file_rows.specs.declared.change.Change.{Change}
-use Rattle.isdr_codec.specs.Metadata.{metadata_of}
-use Rattle.lsi_refresh.specs.Lsi.{count_body, lsi_of}
+use Rattle.lsi_refresh.specs.Lsi.{lsi_of}
 use Rattle.lsi_refresh.specs.declared.lsi.Lsi.{Lsi}
 use Rattle.lsi_refresh.specs.declared.lsi.Lsi.TheVariants as lsi
-use Rattle.profile_card.proofs.FollowLemmas.{MayFollow-decision}
-use Rattle.profile_card.specs.Card.{Card, IsSound}
-use Rattle.profile_card.specs.Commands.{decision}
+use Rattle.profile_card.specs.Card.{IsSound}
 use Rattle.profile_card.specs.Own.{is_common}
-use Rattle.card_core.proofs.CameLemmas.{state_with}
-use Rattle.card_core.proofs.OutcomeLemmas.{get_response-has}
-use Rattle.card_core.specs.Desk.{desk_outcome, exchange_at, with_exchange}
-use Rattle.card_core.specs.DeskOutcome.{DeskOutcome, desk_answer, desk_refusal}
-use Rattle.card_core.specs.Failed.{FailsWith, failed_command, failed_port, spoiled}
-use Rattle.card_core.specs.GetResponse.{get_response}
-use Rattle.card_core.specs.IsdrCommand.{at_each, busy_of, came_at, is_shared_command, isdr_carried}
-use Rattle.card_core.specs.IsdrCommand.{isdr_made, kept_on, move_at, port_moved}
-use Rattle.card_core.specs.Load.{LoadOutcome, load_begun, piece_taken}
+use Rattle.card_core.specs.Failed.{FailsWith}
+use Rattle.card_core.specs.IsdrCommand.{is_shared_command}
+use Rattle.card_core.specs.IsdrCommand.{isdr_made}
 use Rattle.card_core.specs.ManageLsi.{lsi_asked_for, lsi_made}
-use Rattle.card_core.specs.OwnCommand.{changed_where, own_made, port_after}
-use Rattle.card_core.specs.Port.{content_on}
-use Rattle.card_core.specs.PortReset.{reset_made}
-use Rattle.card_core.specs.PortState.{PortState, counted, reset_port}
+use Rattle.card_core.specs.OwnCommand.{own_made}
 use Rattle.card_core.specs.Statements.{AnswersBytes, command_made}
-use Rattle.card_core.specs.StoreData.{store_data}
 use Rattle.card_core.specs.Stepped.{Happens}
-use Rattle.card_core.specs.Stretch.{IsUnshared, PortView, StaysAt, is_for, is_shared_at}
+use Rattle.card_core.specs.Stretch.{is_for, is_shared_at}
 use Rattle.card_core.specs.Stretch.{resets_a_port, view_at}
-use Rattle.card_core.specs.World.{Made, WorldState, answered_alone, card_in, count_if, entry_at}
+use Rattle.card_core.specs.World.{Made, WorldState, card_in, count_if}
 use Rattle.card_core.specs.World.{port_in}
-use Rattle.card_core.specs.declared.desk.Desk.{Desk}
-use Rattle.card_core.specs.declared.entry.Cause.{Cause}
-use Rattle.card_core.specs.declared.entry.Entry.{Entry}
-use Rattle.card_core.specs.declared.entry.Line.{Line}
-use Rattle.card_core.specs.declared.entry.Line.TheVariants as lines
-use Rattle.card_core.specs.declared.entry.Loading.TheVariants.{Memory}
 use Rattle.card_core.specs.declared.event.Event.{Event}
 use Rattle.card_core.specs.declared.event.Event.TheVariants as events
 use Rattle.card_core.specs.declared.event.LoadStep.{LoadStep}

@@ -1,5 +1,5 @@
 -- What follows what in a run: turns, the numbers of the statements at a port, and phases.
-use Rattle.std.proofs.Common.{◌≡◌, ◌⊎◌, ◌<◌, ◌≤◌, ◌+◌, ◌-◌, ℕ, Bool, true, false, cond, nat_eq, nat_le, List}
+use Rattle.std.proofs.Common.{◌≡◌, ◌⊎◌, ◌<◌, ◌≤◌, ◌+◌, ℕ, Bool, true, false, cond, nat_eq, List}
 use Rattle.std.proofs.Common.{[], ◌∷◌, ◌++◌, filter, length, map, refl, sym, ◌∙◌, ap, subst, arith, inl}
 use Rattle.std.proofs.Common.{inr, eqb-true, Some, None, slice_index_or}
 use Rattle.std.proofs.lemmas.Bool.{eq-eqb, eqb-false, ne_eqb}
@@ -7,12 +7,12 @@ use Rattle.std.specs.List.{AllByRecursion}
 use Rattle.plain_lists.specs.EachTwo.{EachTwo}
 use Rattle.card_core.proofs.AloneLemmas.{one_port}
 use Rattle.card_core.proofs.LocalLemmas.{IsLocal, IsOwnLine}
-use Rattle.card_core.proofs.RankLemmas.{AtMost, each_joined, each_two_append, each_weaker}
+use Rattle.card_core.proofs.RankLemmas.{AtMost, each_weaker}
 use Rattle.card_core.proofs.ShownLemmas.{IsFit, IsGood, Runs, Shown, good_after, made_there, shown_of}
 use Rattle.card_core.proofs.ShownLemmas.{local_there, unshared_at}
 use Rattle.card_core.proofs.StatementLemmas.{IsLineOf, IsStatementMade, its_port}
 use Rattle.card_core.proofs.LineLemmas.{own_first}
-use Rattle.card_core.specs.Merge.{ComeInPhases, ComesToPort, maker_of, phase_at}
+use Rattle.card_core.specs.Merge.{ComesToPort, maker_of}
 use Rattle.card_core.specs.Stretch.{is_for}
 use Rattle.card_core.specs.World.{Made, WorldState, count_if, port_in}
 use Rattle.card_core.specs.declared.entry.Entry.{Entry}

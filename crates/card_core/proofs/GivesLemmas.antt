@@ -1,10 +1,9 @@
 -- The share of a profile in a run, by what its steps show.
-use Rattle.std.proofs.Common.{◌≡◌, ◌≢◌, ◌⊎◌, ◌+◌, ℕ, Bool, true, false, cond, nat_eq, List, [], ◌∷◌, ◌++◌}
-use Rattle.std.proofs.Common.{flat_map, map, Option, Some, None, slice_index_or, refl, sym, ◌∙◌, ap, subst}
-use Rattle.std.proofs.Common.{inl, inr, append_assoc, append-nil, arith}
+use Rattle.std.proofs.Common.{◌≡◌, ◌≢◌, ◌⊎◌, ℕ, Bool, true, false, cond, nat_eq, List, [], ◌∷◌, ◌++◌}
+use Rattle.std.proofs.Common.{flat_map, map, Option, Some, None, slice_index_or, refl, sym, ◌∙◌, ap}
+use Rattle.std.proofs.Common.{inl, inr}
 use Rattle.std.specs.List.{AllByRecursion}
 use Rattle.apdu_codec.specs.Command.{Apdu, Spells}
-use Rattle.apdu_codec.specs.declared.answers.Answer.{Answer}
 use Rattle.lsi_refresh.specs.Lsi.{lsi_of}
 use Rattle.plain_lists.specs.EachTwo.{EachTwo}
 use Rattle.profile_card.specs.Own.{is_common}
@@ -13,17 +12,16 @@ use Rattle.profile_card.specs.Step.Event.{Command, Power as PowerCycle, Reset as
 use Rattle.record_codec.specs.declared.durable.Heads.{Heads}
 use Rattle.card_core.proofs.AloneLemmas.{given_not}
 use Rattle.card_core.proofs.AloneStepLemmas.{here_or_not}
-use Rattle.card_core.proofs.ChangeLemmas.{Swaps, one_line, ranks}
+use Rattle.card_core.proofs.ChangeLemmas.{one_line, ranks}
 use Rattle.card_core.proofs.FollowLemmas.{HasOneLine, IsTold, number_of}
 use Rattle.card_core.proofs.LocalLemmas.{IsOwnLine}
 use Rattle.card_core.proofs.ShownLemmas.{MaySwap, Shown, shown}
 use Rattle.card_core.proofs.SortLemmas.{in_order, is_before, order_each, put}
 use Rattle.card_core.proofs.StatementLemmas.{its_port}
 use Rattle.card_core.specs.Merge.{ComesToPort}
-use Rattle.card_core.specs.PortState.{PortState}
 use Rattle.card_core.specs.Port.{profile_on}
 use Rattle.card_core.specs.Share.{AreShares, IsEventShare, IsOwnShare, IsShareAt, Share, answers_in}
-use Rattle.card_core.specs.Share.{given_by_line, given_by_lsi, given_there, joined_share, no_share}
+use Rattle.card_core.specs.Share.{given_by_line, given_by_lsi, joined_share, no_share}
 use Rattle.card_core.specs.Stepped.{Stepped}
 use Rattle.card_core.specs.World.{Made, WorldState}
 use Rattle.card_core.specs.declared.entry.Entry.{Entry}

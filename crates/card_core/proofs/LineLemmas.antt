@@ -1,56 +1,28 @@
 -- The lines of a statement: whose they are, and their order.
-use Rattle.std.proofs.Common.{◌≡◌, ◌≢◌, ◌⊎◌, ◌<◌, ◌+◌, ℕ, zero, suc, Bool, true, false, cond, nat_eq, nat_lt}
-use Rattle.std.proofs.Common.{List, [], ◌∷◌, ◌++◌, length, Option, Some, None, Result, Ok, Err, refl, sym}
-use Rattle.std.proofs.Common.{◌∙◌, ap, subst, arith, inl, inr, eqb-true, flat_map, length-set}
+use Rattle.std.proofs.Common.{◌≡◌, ◌≢◌, ◌<◌, ℕ, Bool, true, false, cond, nat_eq, nat_lt}
+use Rattle.std.proofs.Common.{List, [], ◌∷◌, ◌++◌, Option, Some, None, Result, Ok, Err, refl, sym}
+use Rattle.std.proofs.Common.{◌∙◌, ap, arith, inl, inr, eqb-true}
 use Rattle.std.proofs.lemmas.Bool.{eq-eqb, eqb-false, ltb-true, ne_eqb}
-use Rattle.std.proofs.lemmas.Option.{slice_get_within}
 use Rattle.std.specs.List.{AllByRecursion}
-use Rattle.std.specs.Prelude.{◌&&◌, is_some, slice_index_or, slice_set}
-use Rattle.apdu_codec.specs.Answer.{status_alone}
+use Rattle.std.specs.Prelude.{◌&&◌}
 use Rattle.apdu_codec.specs.Command.{Apdu}
 use Rattle.apdu_codec.specs.declared.status.Sw.{Sw}
-use Rattle.apdu_codec.specs.declared.status.TheConstants.Sw.{OK, WRONG_CLASS}
-use Rattle.isdr_commands.specs.Laws.{IsMoved}
+use Rattle.apdu_codec.specs.declared.status.TheConstants.Sw.{WRONG_CLASS}
 use Rattle.isdr_commands.specs.declared.moves.Move.{Move}
 use Rattle.lsi_refresh.specs.Lsi.{asked_in_form, done_unless, form_refusal_of, has_class_80, lsi_asked, lsi_of}
 use Rattle.lsi_refresh.specs.declared.lsi.Lsi.{Lsi}
 use Rattle.lsi_refresh.specs.declared.lsi.Lsi.TheVariants as lsi
 use Rattle.plain_lists.specs.EachTwo.{EachTwo}
-use Rattle.port_table.specs.declared.ports.Ports.{Ports}
-use Rattle.profile_card.specs.Own.{is_common}
-use Rattle.record_codec.specs.declared.durable.Durable.{Durable}
-use Rattle.card_core.proofs.CameLemmas.{state_with}
-use Rattle.card_core.proofs.CardStepLemmas.{there}
-use Rattle.card_core.proofs.CarriedLemmas.{IsCarried, desk_carried}
 use Rattle.card_core.proofs.LocalLemmas.{IsOwnLine}
-use Rattle.card_core.proofs.RankLemmas.{AtMost, Rank, each_given, each_joined, each_two_append}
-use Rattle.card_core.proofs.RankLemmas.{each_two_given, each_weaker}
-use Rattle.card_core.proofs.SeenLemmas.{seen_alike}
-use Rattle.card_core.proofs.StayLemmas.{other_port}
-use Rattle.card_core.specs.Desk.{desk_outcome}
-use Rattle.card_core.specs.DeskOutcome.{DeskOutcome}
-use Rattle.card_core.specs.IsdrCommand.{at_each, bound_line, busy_of, came_at, is_shared_command, isdr_made}
-use Rattle.card_core.specs.IsdrCommand.{kept_on, move_at, move_lines, moves_lines, other_move_lines}
-use Rattle.card_core.specs.IsdrCommand.{own_move_lines, port_moved, ports_moved, telling_of, unbound_line}
-use Rattle.card_core.specs.ManageLsi.{counted_at, lsi_asked_for, lsi_made}
-use Rattle.card_core.specs.Merge.{ComesToPort, maker_at, maker_of}
-use Rattle.card_core.specs.OwnCommand.{own_made}
-use Rattle.card_core.specs.PortState.{PortState, counted, fresh_port, reset_port}
-use Rattle.card_core.specs.Recorded.{recorded}
-use Rattle.card_core.specs.Run.{IsOnCard}
-use Rattle.card_core.specs.Sound.{IsSoundState}
-use Rattle.card_core.specs.Failed.{FailsLoadWith}
-use Rattle.card_core.specs.Statements.{AnswersBytes, MakesLoadStep, command_made}
-use Rattle.card_core.specs.Stepped.{Happens}
-use Rattle.card_core.specs.World.{Made, WorldState, count_if, entry_at, next_maker, port_in}
+use Rattle.card_core.proofs.RankLemmas.{AtMost, Rank, each_joined, each_two_append}
+use Rattle.card_core.proofs.RankLemmas.{each_weaker}
+use Rattle.card_core.specs.IsdrCommand.{bound_line}
+use Rattle.card_core.specs.IsdrCommand.{move_lines, other_move_lines}
+use Rattle.card_core.specs.IsdrCommand.{own_move_lines, unbound_line}
+use Rattle.card_core.specs.Merge.{maker_at, maker_of}
 use Rattle.card_core.specs.declared.entry.Entry.{Entry}
 use Rattle.card_core.specs.declared.entry.Line.{Line}
 use Rattle.card_core.specs.declared.entry.Line.TheVariants as lines
-use Rattle.card_core.specs.declared.entry.Maker.{Maker}
-use Rattle.card_core.specs.declared.event.Event.{Event}
-use Rattle.card_core.specs.declared.event.Event.TheVariants as events
-use Rattle.card_core.specs.declared.event.LoadStep.{LoadStep}
-use Rattle.card_core.specs.declared.event.LoadStep.TheVariants as steps
 use Rattle.card_core.specs.declared.telling.Telling.{Telling}
 
 abbrev pub own_rank : Bool → ℕ

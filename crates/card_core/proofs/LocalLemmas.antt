@@ -22,7 +22,7 @@ use Rattle.card_core.proofs.CameLemmas.{state_with}
 use Rattle.card_core.proofs.OutcomeLemmas.{get_response-has}
 use Rattle.card_core.specs.Desk.{desk_outcome, exchange_at, with_exchange}
 use Rattle.card_core.specs.DeskOutcome.{DeskOutcome, desk_answer, desk_refusal}
-use Rattle.card_core.specs.Failed.{FailsWith, failed_command, failed_port, spoiled}
+use Rattle.card_core.specs.Failed.{failed_command, failed_port, spoiled}
 use Rattle.card_core.specs.GetResponse.{get_response}
 use Rattle.card_core.specs.IsdrCommand.{at_each, busy_of, came_at, is_shared_command, isdr_carried}
 use Rattle.card_core.specs.IsdrCommand.{isdr_made, kept_on, move_at, port_moved}
@@ -35,7 +35,7 @@ use Rattle.card_core.specs.PortState.{PortState, counted, reset_port}
 use Rattle.card_core.specs.Statements.{AnswersBytes, command_made}
 use Rattle.card_core.specs.StoreData.{store_data}
 use Rattle.card_core.specs.Stepped.{Happens}
-use Rattle.card_core.specs.Stretch.{IsUnshared, PortView, StaysAt, is_for, is_shared_at}
+use Rattle.card_core.specs.Stretch.{IsUnshared, PortView, StaysAt, is_shared_at}
 use Rattle.card_core.specs.Stretch.{resets_a_port, view_at}
 use Rattle.card_core.specs.World.{Made, WorldState, answered_alone, card_in, count_if, entry_at}
 use Rattle.card_core.specs.World.{port_in}

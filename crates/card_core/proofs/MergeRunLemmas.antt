@@ -1,6 +1,6 @@
 -- A run of a section and the run of the same statements in the order of the merge.
-use Rattle.std.proofs.Common.{◌≡◌, ◌≢◌, ◌⊎◌, ◌<◌, ◌≤◌, ◌+◌, ◌-◌, ℕ, Bool, true, false, cond, nat_eq}
-use Rattle.std.proofs.Common.{List, [], ◌∷◌, ◌++◌, filter, flat_map, length, map, None, refl, sym, ◌∙◌, ap}
+use Rattle.std.proofs.Common.{◌≡◌, ◌≢◌, ◌<◌, ◌≤◌, ◌+◌, ◌-◌, ℕ, Bool, true, false, cond, nat_eq}
+use Rattle.std.proofs.Common.{List, [], ◌∷◌, ◌++◌, flat_map, length, map, refl, sym, ◌∙◌, ap}
 use Rattle.std.proofs.Common.{subst, arith, inl, inr}
 use Rattle.std.proofs.lemmas.Bool.{ne_eqb}
 use Rattle.std.proofs.lemmas.List.Elements.{filter-append}
@@ -9,7 +9,7 @@ use Rattle.std.specs.Prelude.{IfSome}
 use Rattle.plain_lists.specs.EachTwo.{EachTwo}
 use Rattle.record_codec.specs.IsDurable.{IsDurable}
 use Rattle.record_codec.specs.declared.durable.Durable.{Durable}
-use Rattle.card_core.proofs.ChangeLemmas.{Swaps, either_order, item_lines, item_phase, item_ranks}
+use Rattle.card_core.proofs.ChangeLemmas.{either_order, item_lines, item_phase, item_ranks}
 use Rattle.card_core.proofs.ChangeLemmas.{lines_either, may_swap, one_apart, order_runs, shared_either}
 use Rattle.card_core.proofs.ChangeLemmas.{shared_of}
 use Rattle.card_core.proofs.FollowLemmas.{Follows, IsTold, comes_by, follow, number_of, told}
@@ -19,20 +19,18 @@ use Rattle.card_core.proofs.PhaseLemmas.{InPhases, in_phases, phase_from}
 use Rattle.card_core.proofs.PhaseOrderLemmas.{KeepsBy, come_by_numbers, events_in, keeps_again}
 use Rattle.card_core.proofs.PhaseOrderLemmas.{keeps_alike, picked, picked_either}
 use Rattle.card_core.proofs.PlacedLemmas.{lines_sieved}
-use Rattle.card_core.proofs.RankLemmas.{AtMost, each_both, each_joined, each_two_both, each_two_with}
+use Rattle.card_core.proofs.RankLemmas.{each_both, each_joined, each_two_both, each_two_with}
 use Rattle.card_core.proofs.RankLemmas.{by_number, each_weaker, in_first_order, map_alike}
 use Rattle.card_core.proofs.SeenLemmas.{fresh_at}
 use Rattle.card_core.proofs.ShownLemmas.{IsFit, IsGood, MaySwap, Runs, Shown, ShowsRun, shown, shown_run}
 use Rattle.card_core.proofs.ShownLemmas.{shows}
-use Rattle.card_core.proofs.SortLemmas.{Changes, in_order, is_before, order_each, order_gives, ordered}
+use Rattle.card_core.proofs.SortLemmas.{in_order, is_before, order_each, order_gives, ordered}
 use Rattle.card_core.proofs.SoundLemmas.{opened_sound}
 use Rattle.card_core.proofs.StatementLemmas.{its_port}
-use Rattle.card_core.specs.LoadState.{LoadState}
-use Rattle.card_core.specs.Merge.{ComeInPhases, ComesToPort, Lanes, RunsAsMerged, Told, lanes_of}
+use Rattle.card_core.specs.Merge.{ComeInPhases, ComesToPort, RunsAsMerged, Told, lanes_of}
 use Rattle.card_core.specs.Merge.{makers_in, merge, phase_at, shared_in, told_of, was_shared}
-use Rattle.card_core.specs.PortState.{PortState, fresh_port}
+use Rattle.card_core.specs.PortState.{PortState}
 use Rattle.card_core.specs.Run.{IsOnCard}
-use Rattle.card_core.specs.Share.{AreShares, Share}
 use Rattle.card_core.specs.Sound.{HasSoundLoads, IsSoundLoad}
 use Rattle.card_core.specs.Stepped.{AreSteps, Stepped}
 use Rattle.card_core.specs.Stretch.{entries_of, is_for, lines_at, steps_at}

@@ -1,26 +1,23 @@
 -- The log of a run in order is the merge of its ports' logs.
-use Rattle.std.proofs.Common.{◌≡◌, ◌⊎◌, ◌<◌, ◌≤◌, ◌+◌, ℕ, Bool, true, false, cond, nat_eq, nat_lt, List}
-use Rattle.std.proofs.Common.{[], ◌∷◌, ◌++◌, filter, flat_map, length, map, refl, sym, ◌∙◌, ap, subst}
+use Rattle.std.proofs.Common.{◌≡◌, ◌<◌, ◌≤◌, ◌+◌, ℕ, Bool, true, false, cond, nat_eq, nat_lt, List}
+use Rattle.std.proofs.Common.{[], ◌∷◌, ◌++◌, filter, flat_map, length, map, refl, sym, ◌∙◌, ap}
 use Rattle.std.proofs.Common.{arith, inl, inr, eqb-true, length-append}
-use Rattle.std.proofs.lemmas.Bool.{eq-eqb, eqb-false, le-ltb, lt-ltb}
-use Rattle.std.proofs.lemmas.List.Elements.{filter-append}
-use Rattle.std.specs.List.{AllByRecursion, list_any, range_with_len}
+use Rattle.std.proofs.lemmas.Bool.{eq-eqb, le-ltb, lt-ltb}
+use Rattle.std.specs.List.{AllByRecursion, range_with_len}
 use Rattle.std.specs.Prelude.{◌&&◌, ◌||◌}
 use Rattle.plain_lists.specs.EachTwo.{EachTwo}
-use Rattle.card_core.proofs.ChangeLemmas.{item_phase, item_ranks, shared_of, turn_most}
-use Rattle.card_core.proofs.FollowLemmas.{Follows, HasOneLine, IsItemLine, IsTold, its_maker, number_of}
+use Rattle.card_core.proofs.ChangeLemmas.{shared_of}
+use Rattle.card_core.proofs.FollowLemmas.{Follows, its_maker, number_of}
 use Rattle.card_core.proofs.FollowLemmas.{is_made, next_is, then_good, turn_is}
-use Rattle.card_core.proofs.RankLemmas.{AtMost, IsWithin, Rank, each_given, each_two_given, each_two_with}
-use Rattle.card_core.proofs.RankLemmas.{each_weaker, flat_map_alike, sieve, sieved}
+use Rattle.card_core.proofs.RankLemmas.{Rank}
+use Rattle.card_core.proofs.RankLemmas.{each_weaker, flat_map_alike, sieve}
 use Rattle.card_core.proofs.ShownLemmas.{IsFit, IsGood, Runs, Shown}
-use Rattle.card_core.proofs.LineLemmas.{own_first, own_rank}
 use Rattle.card_core.proofs.StatementLemmas.{its_port}
-use Rattle.card_core.specs.Merge.{Lanes, is_made_by_one_of, line_phase, lines_of, maker_of, merge, phase_at}
+use Rattle.card_core.specs.Merge.{is_made_by_one_of, line_phase, lines_of, merge}
 use Rattle.card_core.specs.Merge.{place_in_turn}
 use Rattle.card_core.specs.Stretch.{lines_at}
 use Rattle.card_core.specs.World.{WorldState}
 use Rattle.card_core.specs.declared.entry.Entry.{Entry}
-use Rattle.card_core.specs.declared.entry.Line.{Line}
 use Rattle.card_core.specs.declared.entry.Maker.{Maker}
 use Rattle.card_core.specs.declared.event.Event.{Event}
 

@@ -1,6 +1,6 @@
 -- The statements of a run stand in the order of their phases.
-use Rattle.std.proofs.Common.{◌≡◌, ◌<◌, ◌≤◌, ◌+◌, ◌-◌, ℕ, Bool, true, false, cond, nat_le, List, []}
-use Rattle.std.proofs.Common.{◌∷◌, ◌++◌, filter, length, map, refl, sym, ◌∙◌, ap, subst, arith}
+use Rattle.std.proofs.Common.{◌≡◌, ◌<◌, ◌≤◌, ◌+◌, ◌-◌, ℕ, Bool, cond, List, []}
+use Rattle.std.proofs.Common.{◌∷◌, ◌++◌, filter, length, map, sym, ◌∙◌, ap, subst, arith}
 use Rattle.std.proofs.lemmas.Bool.{le-leb, lt-leb}
 use Rattle.std.specs.List.{AllByRecursion}
 use Rattle.file_rows.proofs.ListLemmas.{each_left, each_right}

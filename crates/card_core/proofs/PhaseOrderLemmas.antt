@@ -1,6 +1,6 @@
 -- The order of the merge is one of those in which the statements of the phases may come.
-use Rattle.std.proofs.Common.{◌≡◌, ◌⊎◌, ◌<◌, ◌≤◌, ◌+◌, ℕ, Bool, true, false, cond, nat_eq, List, [], ◌∷◌}
-use Rattle.std.proofs.Common.{◌++◌, filter, flat_map, length, map, refl, sym, ◌∙◌, ap, subst, arith, inl, inr}
+use Rattle.std.proofs.Common.{◌≡◌, ◌+◌, ℕ, Bool, true, false, cond, nat_eq, List, [], ◌∷◌}
+use Rattle.std.proofs.Common.{◌++◌, filter, flat_map, length, map, refl, sym, ◌∙◌, ap, arith, inl, inr}
 use Rattle.std.proofs.Common.{append-nil, eqb-true}
 use Rattle.std.proofs.lemmas.Bool.{eq-eqb, eqb-false, ne_eqb}
 use Rattle.std.proofs.lemmas.List.{map-append}
@@ -12,7 +12,7 @@ use Rattle.card_core.proofs.FollowLemmas.{comes_by}
 use Rattle.card_core.proofs.RankLemmas.{each_filter, each_weaker, of_number}
 use Rattle.card_core.proofs.ShownLemmas.{IsFit, MaySwap, Shown}
 use Rattle.card_core.proofs.StatementLemmas.{its_port}
-use Rattle.card_core.specs.Merge.{ComeInPhases, ComesToPort, KeepsEachPort}
+use Rattle.card_core.specs.Merge.{ComeInPhases, ComesToPort}
 use Rattle.card_core.specs.Stretch.{is_for}
 use Rattle.card_core.specs.declared.event.Event.{Event}
 

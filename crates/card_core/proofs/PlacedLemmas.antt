@@ -1,11 +1,11 @@
 -- The lines of a run in order stand in the order of the merge.
-use Rattle.std.proofs.Common.{◌≡◌, ◌⊎◌, ◌<◌, ◌≤◌, ◌+◌, ℕ, Bool, true, false, cond, nat_eq, nat_lt, List}
+use Rattle.std.proofs.Common.{◌≡◌, ◌<◌, ◌≤◌, ◌+◌, ℕ, Bool, true, false, cond, nat_eq, nat_lt, List}
 use Rattle.std.proofs.Common.{[], ◌∷◌, flat_map, length, refl, sym, ◌∙◌, ap, subst, arith, inl, inr}
 use Rattle.std.proofs.lemmas.Bool.{le-ltb, lt-ltb}
 use Rattle.std.specs.List.{AllByRecursion}
 use Rattle.plain_lists.specs.EachTwo.{EachTwo}
 use Rattle.card_core.proofs.ChangeLemmas.{item_phase, item_ranks, shared_of, turn_most}
-use Rattle.card_core.proofs.FollowLemmas.{Follows, HasOneLine, IsItemLine, IsTold, its_maker, number_of}
+use Rattle.card_core.proofs.FollowLemmas.{Follows, IsItemLine, IsTold, its_maker}
 use Rattle.card_core.proofs.MergedLemmas.{line_ranks, marked}
 use Rattle.card_core.proofs.RankLemmas.{AtMost, IsWithin, each_given, each_two_given, each_two_with}
 use Rattle.card_core.proofs.RankLemmas.{each_weaker, sieve, sieved}

@@ -1,8 +1,7 @@
 -- The lines of any statement, in the words of the law.
-use Rattle.std.proofs.Common.{◌≡◌, ◌≢◌, ◌⊎◌, ◌<◌, ◌≤◌, ℕ, Bool, true, false, nat_eq, refl, sym, ◌∙◌, ap}
+use Rattle.std.proofs.Common.{◌≡◌, ◌⊎◌, ◌<◌, ◌≤◌, ℕ, Bool, true, false, nat_eq, refl, sym}
 use Rattle.std.proofs.Common.{subst, arith, inl, inr, eqb-true}
 use Rattle.std.proofs.lemmas.Bool.{eqb-false}
-use Rattle.std.specs.List.{AllByRecursion}
 use Rattle.card_core.proofs.LineLemmas.{own_first, own_rank}
 use Rattle.card_core.proofs.RankLemmas.{AtMost, each_two_with, each_weaker}
 use Rattle.card_core.proofs.StatementLemmas.{IsLineOf, IsStatementMade, its_port, statement_made}

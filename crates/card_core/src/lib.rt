@@ -50,9 +50,7 @@ pub use laws::{
     replies_are_given_in_order, requests_stay_within_their_limits,
 };
 pub use load::Load;
-pub use merge_laws::{
-    runs_may_be_made_in_the_order_of_their_merge, statements_are_told_in_order,
-};
+pub use merge_laws::{runs_may_be_made_in_the_order_of_their_merge, statements_are_told_in_order};
 pub use port::{CardAnswer, Port};
 pub use port_content::{change_content, content_on, profile_on};
 pub use run::pure_run;
