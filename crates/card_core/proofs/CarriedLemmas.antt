@@ -1,7 +1,8 @@
 -- The ports that move with a command for the ISD-R are those whose profile changes, and its record
 -- changes no content.
 use Rattle.std.proofs.Common.{◌≡◌, ◌<◌, ◌≤◌, ◌+◌, ℕ, Bool, true, false, cond, nat_eq, List, []}
-use Rattle.std.proofs.Common.{◌∷◌, arith, length, Option, Some, None, Result, Ok, Err, refl, subst, sym}
+use Rattle.std.proofs.Common.{◌∷◌, arith, length, Option, Some, None, Result, Ok, Err, refl, subst}
+use Rattle.std.proofs.Common.{sym}
 use Rattle.std.specs.List.{AllByRecursion, list_any}
 use Rattle.std.specs.Prelude.{IfSome, is_some, ⊤}
 use Rattle.apdu_codec.specs.Command.{Apdu}

@@ -7,7 +7,8 @@ use Rattle.std.specs.List.{AllByRecursion}
 use Rattle.plain_lists.specs.EachTwo.{EachTwo}
 use Rattle.card_core.proofs.FollowLemmas.{Follows, HasOneLine, IsTold, its_maker, number_of}
 use Rattle.card_core.proofs.RankLemmas.{Rank}
-use Rattle.card_core.proofs.ShownLemmas.{IsFit, IsGood, MaySwap, Runs, Shown, good_after, runs_swapped}
+use Rattle.card_core.proofs.ShownLemmas.{IsFit, IsGood, MaySwap, Runs, Shown, good_after}
+use Rattle.card_core.proofs.ShownLemmas.{runs_swapped}
 use Rattle.card_core.proofs.SortLemmas.{IsLess, before_less, in_order, is_before, order_each, put}
 use Rattle.card_core.proofs.StatementLemmas.{its_port}
 use Rattle.card_core.specs.Merge.{phase_at}
@@ -148,7 +149,8 @@ no_lines port item one apart =
     line_where : List Entry → Bool → List Entry
     line_where entries here = cond here entries []
 
-pub one_line : (count : ℕ) (item : Shown) → IsTold count item → item.next ≡ item.turn → HasOneLine item
+pub one_line : (count : ℕ) (item : Shown) → IsTold count item → item.next ≡ item.turn
+    → HasOneLine item
 one_line count item told same = elim told.shared [
   | inl its ↦ its.1
   | inr more ↦ absurd (omega (arith, more, same))

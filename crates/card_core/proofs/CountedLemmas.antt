@@ -64,7 +64,8 @@ module _ (port : ℕ) (state : WorldState) (sound : IsSound (card_in state port)
       (not_counted_by state.shared (is_shared_at (view_at state port) spelled.0)
       (sym (command_counts spelled.0) ∙ ap (λ (its : Made). its.state.shared) (sym spelled.2)
       ∙ stays)) spelled.2
-  counted_bytes_local bytes made (inr none) stays = unspelled_local port state bytes made none.0 none.1
+  counted_bytes_local bytes made (inr none) stays =
+      unspelled_local port state bytes made none.0 none.1
 
   counted_failed_local : (bytes : List ℕ) (made : Made)
       → FailsWith state (events.Apdu port bytes) made → made.state.shared ≡ state.shared

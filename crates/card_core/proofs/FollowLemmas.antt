@@ -1,6 +1,7 @@
 -- What follows what in a run: turns, the numbers of the statements at a port, and phases.
 use Rattle.std.proofs.Common.{◌≡◌, ◌⊎◌, ◌<◌, ◌≤◌, ◌+◌, ℕ, Bool, true, false, cond, nat_eq, List}
-use Rattle.std.proofs.Common.{[], ◌∷◌, ◌++◌, filter, length, map, refl, sym, ◌∙◌, ap, subst, arith, inl}
+use Rattle.std.proofs.Common.{[], ◌∷◌, ◌++◌, filter, length, map, refl, sym, ◌∙◌, ap, subst, arith}
+use Rattle.std.proofs.Common.{inl}
 use Rattle.std.proofs.Common.{inr, eqb-true, Some, None, slice_index_or}
 use Rattle.std.proofs.lemmas.Bool.{eq-eqb, eqb-false, ne_eqb}
 use Rattle.std.specs.List.{AllByRecursion}
@@ -8,7 +9,8 @@ use Rattle.plain_lists.specs.EachTwo.{EachTwo}
 use Rattle.card_core.proofs.AloneLemmas.{one_port}
 use Rattle.card_core.proofs.LocalLemmas.{IsLocal, IsOwnLine}
 use Rattle.card_core.proofs.RankLemmas.{AtMost, each_weaker}
-use Rattle.card_core.proofs.ShownLemmas.{IsFit, IsGood, Runs, Shown, good_after, made_there, shown_of}
+use Rattle.card_core.proofs.ShownLemmas.{IsFit, IsGood, Runs, Shown, good_after, made_there}
+use Rattle.card_core.proofs.ShownLemmas.{shown_of}
 use Rattle.card_core.proofs.ShownLemmas.{local_there, unshared_at}
 use Rattle.card_core.proofs.StatementLemmas.{IsLineOf, IsStatementMade, its_port}
 use Rattle.card_core.proofs.LineLemmas.{own_first}
@@ -328,7 +330,8 @@ pub record RunsInParts (state : WorldState) (front back : List Shown) (after : W
   pub first : Runs state front between
   pub rest : Runs between back after
 
-pub run_parts : (front back : List Shown) (state after : WorldState) → Runs state (front ++ back) after
+pub run_parts : (front back : List Shown) (state after : WorldState)
+    → Runs state (front ++ back) after
     → RunsInParts state front back after
 run_parts [] back state after runs = record { between = state; first = refl; rest = runs }
 run_parts (item ∷ front) back state after runs =

@@ -1,5 +1,6 @@
 -- The share of a profile in a run, by what its steps show.
-use Rattle.std.proofs.Common.{◌≡◌, ◌≢◌, ◌⊎◌, ℕ, Bool, true, false, cond, nat_eq, List, [], ◌∷◌, ◌++◌}
+use Rattle.std.proofs.Common.{◌≡◌, ◌≢◌, ◌⊎◌, ℕ, Bool, true, false, cond, nat_eq, List, [], ◌∷◌}
+use Rattle.std.proofs.Common.{◌++◌}
 use Rattle.std.proofs.Common.{flat_map, map, Option, Some, None, slice_index_or, refl, sym, ◌∙◌, ap}
 use Rattle.std.proofs.Common.{inl, inr}
 use Rattle.std.specs.List.{AllByRecursion}
@@ -69,7 +70,8 @@ OwnGives profile item event true share = share ≡ no_share
 
 abbrev lines_give : ℕ → Shown → List CardEvent
 lines_give profile item =
-    flat_map (λ entry. given_by_line profile (stands_at item.heads entry.port) entry.port entry.line)
+    flat_map (λ entry. given_by_line profile (stands_at item.heads entry.port) entry.port
+    entry.line)
     item.entries
 
 -- the share of a profile in an item

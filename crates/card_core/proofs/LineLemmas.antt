@@ -9,7 +9,8 @@ use Rattle.apdu_codec.specs.Command.{Apdu}
 use Rattle.apdu_codec.specs.declared.status.Sw.{Sw}
 use Rattle.apdu_codec.specs.declared.status.TheConstants.Sw.{WRONG_CLASS}
 use Rattle.isdr_commands.specs.declared.moves.Move.{Move}
-use Rattle.lsi_refresh.specs.Lsi.{asked_in_form, done_unless, form_refusal_of, has_class_80, lsi_asked, lsi_of}
+use Rattle.lsi_refresh.specs.Lsi.{asked_in_form, done_unless, form_refusal_of, has_class_80}
+use Rattle.lsi_refresh.specs.Lsi.{lsi_asked, lsi_of}
 use Rattle.lsi_refresh.specs.declared.lsi.Lsi.{Lsi}
 use Rattle.lsi_refresh.specs.declared.lsi.Lsi.TheVariants as lsi
 use Rattle.plain_lists.specs.EachTwo.{EachTwo}

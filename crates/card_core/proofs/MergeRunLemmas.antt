@@ -10,10 +10,12 @@ use Rattle.plain_lists.specs.EachTwo.{EachTwo}
 use Rattle.record_codec.specs.IsDurable.{IsDurable}
 use Rattle.record_codec.specs.declared.durable.Durable.{Durable}
 use Rattle.card_core.proofs.ChangeLemmas.{either_order, item_lines, item_phase, item_ranks}
-use Rattle.card_core.proofs.ChangeLemmas.{lines_either, may_swap, one_apart, order_runs, shared_either}
+use Rattle.card_core.proofs.ChangeLemmas.{lines_either, may_swap, one_apart, order_runs}
+use Rattle.card_core.proofs.ChangeLemmas.{shared_either}
 use Rattle.card_core.proofs.ChangeLemmas.{shared_of}
 use Rattle.card_core.proofs.FollowLemmas.{Follows, IsTold, comes_by, follow, number_of, told}
-use Rattle.card_core.proofs.GivesLemmas.{AllGive, OneQuiet, all_show, all_shown, one_quiet, order_give}
+use Rattle.card_core.proofs.GivesLemmas.{AllGive, OneQuiet, all_show, all_shown, one_quiet}
+use Rattle.card_core.proofs.GivesLemmas.{order_give}
 use Rattle.card_core.proofs.MergedLemmas.{merge_is, turns_within}
 use Rattle.card_core.proofs.PhaseLemmas.{InPhases, in_phases, phase_from}
 use Rattle.card_core.proofs.PhaseOrderLemmas.{KeepsBy, come_by_numbers, events_in, keeps_again}
@@ -22,7 +24,8 @@ use Rattle.card_core.proofs.PlacedLemmas.{lines_sieved}
 use Rattle.card_core.proofs.RankLemmas.{each_both, each_joined, each_two_both, each_two_with}
 use Rattle.card_core.proofs.RankLemmas.{by_number, each_weaker, in_first_order, map_alike}
 use Rattle.card_core.proofs.SeenLemmas.{fresh_at}
-use Rattle.card_core.proofs.ShownLemmas.{IsFit, IsGood, MaySwap, Runs, Shown, ShowsRun, shown, shown_run}
+use Rattle.card_core.proofs.ShownLemmas.{IsFit, IsGood, MaySwap, Runs, Shown, ShowsRun, shown}
+use Rattle.card_core.proofs.ShownLemmas.{shown_run}
 use Rattle.card_core.proofs.ShownLemmas.{shows}
 use Rattle.card_core.proofs.SortLemmas.{in_order, is_before, order_each, order_gives, ordered}
 use Rattle.card_core.proofs.SoundLemmas.{opened_sound}
@@ -210,7 +213,8 @@ module _ (phases : List (List Event)) (start : Durable) (came : List Event) (tak
 
   both : AllByRecursion Both items
   both =
-      each_both (IsTold count) (IsFit count) items (told count items first after good fits runs) fits
+      each_both (IsTold count) (IsFit count) items (told count items first after good fits runs)
+      fits
 
   abbrev Then : Shown → Shown → Type 0
   Then one other = Follows one other × PhaseMost one other

@@ -133,14 +133,16 @@ both_plain false = refl
 
 -- which items of a run were shared
 one_of_append : (makers others : List Maker) (maker : Maker)
-    → is_made_by_one_of (makers ++ others) maker ≡ (is_made_by_one_of makers maker || is_made_by_one_of others maker)
+    → is_made_by_one_of (makers ++ others) maker
+    ≡ (is_made_by_one_of makers maker || is_made_by_one_of others maker)
 one_of_append [] others maker = refl
 one_of_append (one ∷ makers) others maker =
     by (nat_eq one.port maker.port && nat_eq one.number maker.number)
     (one_of_append makers others maker)
   where
     by : (here : Bool)
-        → is_made_by_one_of (makers ++ others) maker ≡ (is_made_by_one_of makers maker || is_made_by_one_of others maker)
+        → is_made_by_one_of (makers ++ others) maker
+        ≡ (is_made_by_one_of makers maker || is_made_by_one_of others maker)
         → (here || is_made_by_one_of (makers ++ others) maker)
         ≡ ((here || is_made_by_one_of makers maker) || is_made_by_one_of others maker)
     by true rest = refl
@@ -223,7 +225,8 @@ marked (item ∷ items) follows = (
     later [] its are = tt
     later (other ∷ others) its are = (
       one_of_append (shared_of item) (flat_map shared_of items) (its_maker other)
-          ∙ ap (λ (its : Bool). its || is_made_by_one_of (flat_map shared_of items) (its_maker other))
+          ∙ ap (λ (its : Bool). its
+          || is_made_by_one_of (flat_map shared_of items) (its_maker other))
           (of_item item (its_maker other) false (earlier_apart item other its.0)
           ∙ and_false (nat_lt item.turn item.next))
           ∙ are.0,

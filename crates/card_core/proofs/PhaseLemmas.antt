@@ -5,10 +5,12 @@ use Rattle.std.proofs.lemmas.Bool.{le-leb, lt-leb}
 use Rattle.std.specs.List.{AllByRecursion}
 use Rattle.file_rows.proofs.ListLemmas.{each_left, each_right}
 use Rattle.plain_lists.specs.EachTwo.{EachTwo}
-use Rattle.card_core.proofs.FollowLemmas.{InParts, IsBehind, RunsInParts, behind, counted_in, number_of}
+use Rattle.card_core.proofs.FollowLemmas.{InParts, IsBehind, RunsInParts, behind, counted_in}
+use Rattle.card_core.proofs.FollowLemmas.{number_of}
 use Rattle.card_core.proofs.FollowLemmas.{parts, run_parts, within_end}
 use Rattle.card_core.proofs.PhaseOrderLemmas.{KeepsBy, events_in, first_of_both, keeps_later}
-use Rattle.card_core.proofs.RankLemmas.{each_is, each_joined, each_two_append, each_two_of, each_two_with}
+use Rattle.card_core.proofs.RankLemmas.{each_is, each_joined, each_two_append, each_two_of}
+use Rattle.card_core.proofs.RankLemmas.{each_two_with}
 use Rattle.card_core.proofs.RankLemmas.{each_weaker}
 use Rattle.card_core.proofs.ShownLemmas.{IsFit, IsGood, Runs, Shown, good_after}
 use Rattle.card_core.proofs.StatementLemmas.{its_port}
@@ -131,7 +133,8 @@ module _ (count : ℕ) where
         λ port. ap (λ (items : List Shown). filter (is_for port) (events_in items))
             (first_of_both its (phase_from phases between) front back first_is later_is)
             ∙ keeps port,
-        keeps_later its (phase_from phases between) front back first_is later_is 0 phases rest.keeps,
+        keeps_later its (phase_from phases between) front back first_is later_is 0 phases
+            rest.keeps,
       );
     }
       where

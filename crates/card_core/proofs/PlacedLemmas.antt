@@ -241,7 +241,8 @@ module _ (phases : List (List Event)) (count : ℕ) (shared : List Maker) where
             by_port : line.port ≡ its_port one.event → its.port ≡ its_port other.event
                 → AtMost (record { of = λ (item : Shown). its_port item.event; below = 0 } ∷ [])
                 one other
-                → AtMost (record { of = λ (entry : Entry). entry.port; below = count } ∷ []) line its
+                → AtMost (record { of = λ (entry : Entry). entry.port; below = count } ∷ []) line
+                its
             by_port here away (inl less) = inl (omega (arith, less, here, away))
             by_port here away (inr (alike, rest)) = inr (here ∙ alike ∙ sym away, tt)
 

@@ -1,5 +1,6 @@
 -- Lists in the order of several numbers of each item, the first number first.
-use Rattle.std.proofs.Common.{◌≡◌, ◌⊎◌, ◌<◌, ◌≤◌, ◌+◌, ℕ, zero, suc, Bool, true, false, cond, nat_eq}
+use Rattle.std.proofs.Common.{◌≡◌, ◌⊎◌, ◌<◌, ◌≤◌, ◌+◌, ℕ, zero, suc, Bool, true, false, cond}
+use Rattle.std.proofs.Common.{nat_eq}
 use Rattle.std.proofs.Common.{List, [], ◌∷◌, ◌++◌, filter, flat_map, map, refl, sym, ◌∙◌, ap, arith}
 use Rattle.std.proofs.Common.{inl, inr, eqb-true}
 use Rattle.std.proofs.lemmas.Bool.{eq-eqb, eqb-false, ne_eqb}
@@ -24,7 +25,8 @@ IsWithin (rank ∷ ranks) x = (rank.of x < rank.below) × IsWithin ranks x
 abbrev pub sieve : {X : Type 0} → List (Rank X) → List X → List X
 sieve [] xs = xs
 sieve (rank ∷ ranks) xs =
-    flat_map (λ n. sieve ranks (filter (λ x. nat_eq (rank.of x) n) xs)) (range_with_len 0 rank.below)
+    flat_map (λ n. sieve ranks (filter (λ x. nat_eq (rank.of x) n) xs))
+    (range_with_len 0 rank.below)
 
 -- alike functions of a list
 pub flat_map_alike : {X Y : Type 0} (f g : X → List Y) → ((x : X) → f x ≡ g x) → (xs : List X)
@@ -65,7 +67,8 @@ module _ {X : Type 0} (key : X → ℕ) where
   none_below : (n : ℕ) (xs : List X) → AllByRecursion (λ x. n < key x) xs → of_number n xs ≡ []
   none_below n [] each = refl
   none_below n (x ∷ xs) each =
-      let apart : nat_eq (key x) n ≡ false = ne_eqb (key x) n (λ same. omega (arith, same, each.0)) in
+      let apart : nat_eq (key x) n ≡ false =
+      ne_eqb (key x) n (λ same. omega (arith, same, each.0)) in
       ap (λ (its : Bool). cond its (x ∷ of_number n xs) (of_number n xs)) apart
       ∙ none_below n xs each.1
 
@@ -102,7 +105,8 @@ module _ {X : Type 0} (key : X → ℕ) where
       (omega (arith, most, apart)) (omega (arith, less)) each)
     where
       by : (here : Bool) → nat_eq (key x) first ≡ here
-          → ((key x ≡ first → ⊥) → flat_map (λ n. of_number n (x ∷ xs)) (range_with_len (first + 1) count)
+          → ((key x ≡ first → ⊥)
+          → flat_map (λ n. of_number n (x ∷ xs)) (range_with_len (first + 1) count)
           ≡ x ∷ flat_map (λ n. of_number n xs) (range_with_len (first + 1) count))
           → flat_map (λ n. of_number n (x ∷ xs)) (range_with_len first (suc count))
           ≡ x ∷ flat_map (λ n. of_number n xs) (range_with_len first (suc count))
@@ -168,7 +172,8 @@ module _ {X : Type 0} (rank : Rank X) (ranks : List (Rank X)) where
       by true is rest = (
         each_weaker (λ y. AtMost (rank ∷ ranks) x y × (nat_eq (rank.of y) n ≡ true))
             (AtMost ranks x)
-            (λ y its. further n x y (eqb-true (rank.of x) n is) (eqb-true (rank.of y) n its.1) its.0)
+            (λ y its. further n x y (eqb-true (rank.of x) n is) (eqb-true (rank.of y) n its.1)
+            its.0)
             (of_number rank.of n xs)
             (each_filter (AtMost (rank ∷ ranks) x) (λ y. nat_eq (rank.of y) n) xs order.0),
         rest,

@@ -83,7 +83,8 @@ before_less (rank ∷ ranks) x y is =
         inr (eqb-true (rank.of x) (rank.of y) its, rest before)
     by false false is its rest before = absurd cc
 
-pub most_trans : {X : Type 0} (ranks : List (Rank X)) (x y z : X) → AtMost ranks x y → AtMost ranks y z
+pub most_trans : {X : Type 0} (ranks : List (Rank X)) (x y z : X) → AtMost ranks x y
+    → AtMost ranks y z
     → AtMost ranks x z
 most_trans [] x y z one other = tt
 most_trans (rank ∷ ranks) x y z (inl one) (inl other) = inl (omega (arith, one, other))

@@ -1,5 +1,6 @@
 -- What any statement at a port counts, and its lines.
-use Rattle.std.proofs.Common.{◌≡◌, ◌≢◌, ◌⊎◌, ◌<◌, ◌+◌, ℕ, zero, suc, Bool, true, false, cond, nat_eq}
+use Rattle.std.proofs.Common.{◌≡◌, ◌≢◌, ◌⊎◌, ◌<◌, ◌+◌, ℕ, zero, suc, Bool, true, false, cond}
+use Rattle.std.proofs.Common.{nat_eq}
 use Rattle.std.proofs.Common.{List, [], ◌∷◌, length, Option, Some, None, Result, Ok, Err, refl, sym}
 use Rattle.std.proofs.Common.{◌∙◌, ap, subst, arith, inl, inr, eqb-true, flat_map}
 use Rattle.std.proofs.lemmas.Bool.{eqb-false}
@@ -172,7 +173,8 @@ module _ (state : WorldState) (sound : IsSoundState state) (port : ℕ)
 
       before : (here : Bool) → nat_eq other port ≡ here
           → AllByRecursion (AtMost (own_first port)
-          (entry_at state port (lines.Answered number (status_alone OK) None))) (reset_line other here)
+          (entry_at state port (lines.Answered number (status_alone OK) None)))
+          (reset_line other here)
       before true is = tt
       before false is = (
         own_before port (entry_at state port (lines.Answered number (status_alone OK) None))
@@ -295,7 +297,8 @@ module _ (state : WorldState) (sound : IsSoundState state) (port : ℕ)
         outcome.moves carried.order (each outcome.moves) (two outcome.moves)
       where
         each : (moves : List Move)
-            → AllByRecursion (λ move. AllByRecursion (ToldAway move) (other_move_lines telling move))
+            → AllByRecursion
+            (λ move. AllByRecursion (ToldAway move) (other_move_lines telling move))
             moves
         each [] = tt
         each (move ∷ moves) = (other_told telling move, each moves)
@@ -320,7 +323,8 @@ module _ (state : WorldState) (sound : IsSoundState state) (port : ℕ)
             same_port (entry ∷ entries) at its = (
               each_weaker (λ other. (other.port ≡ at) × (other.port ≢ port))
                   (AtMost (own_first port) entry)
-                  (λ other is. away_alike port entry other its.0.1 is.1 (its.0.0 ∙ sym is.0)) entries
+                  (λ other is. away_alike port entry other its.0.1 is.1 (its.0.0 ∙ sym is.0))
+                  entries
                   its.1,
               same_port entries at its.1,
             )
@@ -333,7 +337,8 @@ module _ (state : WorldState) (sound : IsSoundState state) (port : ℕ)
             (each_given (IsLineOf port state) (own_move_lines telling) outcome.moves
             (lines_within (own_move_lines telling) own_told_at outcome.moves carried.moves.each))
             (each_given (IsLineOf port state) (other_move_lines telling) outcome.moves
-            (lines_within (other_move_lines telling) other_told_at outcome.moves carried.moves.each)),
+            (lines_within (other_move_lines telling) other_told_at outcome.moves
+            carried.moves.each)),
       );
       order = own_then port (answer ∷ own) others (refl, own_here) others_away others_order;
       counts = λ place.

@@ -120,8 +120,9 @@ told_of step =
     record { event = step.event; failed = step.failed; entries = step.made.entries }
 
 -- a run, and the same statements made in the order of the merge: they come in the same phases and
--- leave the same card; its log is the merge, in which each port has the log that it had; each port's
--- statements come in the same order and fail and are told alike; and each profile has the same share
+-- leave the same card; the log is the merge, in which each port has the log that it had; the
+-- statements of each port come in the same order, and fail and are told alike; and each profile has
+-- the same share
 pub record RunsAsMerged (phases : List (List Event)) (start : WorldState) (steps : List Stepped)
     (after : WorldState) : Type 0 where
   pub events : List Event

@@ -1,6 +1,6 @@
 -- Statements that stay at their port, and stretches of them.
-use Rattle.std.specs.Prelude.{ℕ, ◌≡◌, ◌≢◌, ◌⊎◌, ◌+◌, ◌==◌, ◌&&◌, Bool, true, false, if◌then◌else◌, ⊤}
-use Rattle.std.specs.Prelude.{List, filter, map, Some, Result, Ok, Err}
+use Rattle.std.specs.Prelude.{ℕ, ◌≡◌, ◌≢◌, ◌⊎◌, ◌+◌, ◌==◌, ◌&&◌, Bool, true, false, if◌then◌else◌}
+use Rattle.std.specs.Prelude.{⊤, List, filter, map, Some, Result, Ok, Err}
 use Rattle.std.specs.List.{AllByRecursion, flat_map}
 use Rattle.apdu_codec.specs.Command.{Apdu, Spells}
 use Rattle.apdu_codec.specs.declared.status.Sw.{Sw}

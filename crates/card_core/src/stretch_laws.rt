@@ -56,8 +56,8 @@ pub fn neighbours_may_change_places()
 
 /// In a stretch of statements of which none is shared, made or failed, each port runs as by itself:
 /// its own statements of the stretch alone, from the same card, of which the same ones fail, make
-/// the same lines and leave the same session, desk, load and content there. The heads, and the contents of profiles on no port,
-/// stay.
+/// the same lines and leave the same session, desk, load and content there. The heads, and the
+/// contents of profiles on no port, stay.
 pub fn a_stretch_runs_port_by_port()
     ensures { (port : ℕ) (start : WorldState) (events : List Event) (steps : List Stepped)
         (after : WorldState) → IsSoundState start → port < start.durable.heads.ports.count
