@@ -57,11 +57,19 @@ pub fn neighbours_may_change_places()
 /// In a stretch of statements of which none is shared, made or failed, each port runs as by itself:
 /// its own statements of the stretch alone, from the same card, of which the same ones fail, make
 /// the same lines and leave the same session, desk, load and content there. The heads, and the
-/// contents of profiles on no port, stay.
+/// contents of profiles on no port, stay. Any other card that shows the port the same runs it so
+/// too, so the stretches of several ports may be put together.
 pub fn a_stretch_runs_port_by_port()
-    ensures { (port : ℕ) (start : WorldState) (events : List Event) (steps : List Stepped)
+    ensures here { (port : ℕ) (start : WorldState) (events : List Event) (steps : List Stepped)
         (after : WorldState) → IsSoundState start → port < start.durable.heads.ports.count
         → AllByRecursion (IsOnCard start.durable.heads.ports.count) events
         → AreSteps start events steps after → AllByRecursion IsOfStretch steps
         → RunsByItself port start events steps after × LeavesCard start after }
+    ensures anywhere { (port : ℕ) (start other : WorldState) (events : List Event)
+        (steps : List Stepped) (after : WorldState) → IsSoundState start
+        → port < length start.ports → port < length other.ports
+        → view_at other port ≡ view_at start port
+        → AllByRecursion (IsOnCard start.durable.heads.ports.count) events
+        → AreSteps start events steps after → AllByRecursion IsOfStretch steps
+        → RunsByItself port other events steps after }
 {}
