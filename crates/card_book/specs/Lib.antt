@@ -1,0 +1,9 @@
+pub mod Book
+pub mod Faults
+pub mod History
+pub mod Images
+pub mod Pass
+pub mod Pen
+pub mod SectionName
+pub mod Step
+pub mod Unrepaired
