@@ -229,3 +229,28 @@ goes_on_by holds is_used_up begun old new history port entry fault lawful goes s
           (λ says image left. image_in_step holds begun.held old history port entry goes.held
           goes.unrepaired fault image (step.images (goes.keeps kept) says image left));
     }
+
+-- no record, no failure of the flash, and no commit that was refused since a switch row is used up
+pub record SaysNothing (more : List HistoryEntry) : Type 0 where
+  pub records : records_of more ≡ []
+  pub rises : rises_of more ≡ []
+  pub worn : list_any is_refused_worn more ≡ false
+
+-- further entries of which the store knows nothing
+pub goes_by_more : (holds : List ℕ → Durable → Type 0) (is_used_up : ℕ → List ℕ → Type 0)
+    (begun now : CardStoreState) (history more : List HistoryEntry) → SaysNothing more
+    → GoesBy holds is_used_up begun now history
+    → GoesBy holds is_used_up begun now (history ++ more)
+goes_by_more holds is_used_up begun now history more nothing goes = record {
+  held = goes.held ∙ ap (fold begun.held) (sym (records_stay history more nothing.records));
+  unrepaired = unrepaired_more history more now.unrepaired nothing.records goes.unrepaired;
+  faults = apart_same begun.flash.faults now.flash.faults now.flash.faults history more
+      nothing.rises (omega arith) goes.faults;
+  time = goes.time;
+  used_up = goes.used_up;
+  worn = λ is. ⊎_elim goes.worn (λ late. absurd (false≢true (sym nothing.worn ∙ late)))
+      (worn_in history more is);
+  keeps = goes.keeps;
+  images = λ kept says image left.
+      holds_more holds begun.held history more image (goes.images kept says image left);
+}

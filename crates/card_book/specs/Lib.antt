@@ -2,6 +2,8 @@ pub mod Book
 pub mod Faults
 pub mod History
 pub mod Images
+pub mod Keeper
+pub mod Marks
 pub mod Pass
 pub mod Pen
 pub mod SectionName

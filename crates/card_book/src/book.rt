@@ -1,19 +1,24 @@
-ghost use Rattle.std.specs.Prelude.{◌≡◌, ◌++◌, ℕ, None, Some, [], length, IfErr, IfOk, IfSome};
+ghost use Rattle.std.specs.Prelude.{◌≡◌, ◌++◌, ◌∷◌, ℕ, None, Some, [], length, IfErr, IfOk, IfSome};
 ghost use Rattle.std.specs.Prelude.{IsErrOf, OnOk};
+ghost use Rattle.std.specs.List.{range_with_len};
 ghost use Rattle.std.specs.Result.{result_err};
 ghost use Rattle.card_book.specs.Book.{GoesBy};
 ghost use Rattle.card_book.specs.History.{HasRoomFor, records_of};
+ghost use Rattle.card_book.specs.Marks.{HasEachPass, MarkedInTurn};
 ghost use Rattle.card_book.specs.Pass.{AreOfPorts};
+ghost use Rattle.card_book.specs.declared.entry.HistoryEntry.TheVariants.{PhaseEnd, Statement};
 ghost use Rattle.card_book.specs.SectionName.{SameStore};
 ghost use Rattle.card_book.specs.Step.{StoreStep, entries_made};
 ghost use Rattle.card_journal.specs.CardStoreState.{IsRefusedUsedUp};
 ghost use Rattle.card_journal.specs.Held.{PutsProfile};
 ghost use Rattle.card_journal.specs.StoreState.{MayCommit};
+ghost use Rattle.record_codec.specs.Apply.{fold};
 ghost use Rattle.record_codec.specs.Heads.{IsHeld, held_content};
 
+use crate::marks::mark_each;
 use crate::pass::passes_of;
 use crate::pen::Pen;
-use crate::{BookFault, Pass, Receipt, SectionName};
+use crate::{BookFault, Marks, Pass, Receipt, SectionName, Shared};
 use card_journal::{CardStore, CommitFault};
 use file_rows::Content;
 use flash_pages::Back;
@@ -115,6 +120,8 @@ impl<St: CardStore, N: SectionName> Book<St, N> {
         ensures number { IfOk result (λ receipt.
             receipt.number ≡ length (records_of self.new.history)) }
         ensures pass { pass.new ≡ pass.old }
+        ensures held { (St.state self.old.store).held
+            ≡ fold N.begun.held (records_of self.old.history) }
         ensures fits { ¬ IsErrOf result BookFault.Unfit
             → MayCommit (St.state self.old.store).held entry.now }
         ensures unfit { IsErrOf result BookFault.Unfit → (self.new.store ≡ self.old.store)
@@ -139,6 +146,43 @@ impl<St: CardStore, N: SectionName> Book<St, N> {
                 Err(fault)
             }
         }
+    }
+
+    /// A statement needed the card as a whole: it comes to the history, and the lane of each port
+    /// marks it, in ascending order. Nothing else of the book meets it marked in part.
+    pub fn share<M: Marks<N>>(&mut self, shared: &Shared, lanes: &mut M)
+        requires room { HasRoomFor 1 self.old.history }
+        requires lanes { HasEachPass (St.state self.old.store).held.heads.ports.count
+            (M.passes lanes.old) }
+        ensures history { self.new.history ≡ self.old.history ++ Statement shared.now ∷ [] }
+        ensures store { self.new.store ≡ self.old.store }
+        ensures marked { MarkedInTurn M.marked self.new.history
+            (range_with_len 0 (St.state self.old.store).held.heads.ports.count)
+            lanes.old lanes.new }
+        ensures passes { M.passes lanes.new ≡ M.passes lanes.old }
+    {
+        let count = self.store.heads().ports.count;
+        self.pen.add_shared(shared);
+        mark_each(lanes, &mut self.pen, count);
+    }
+
+    /// A phase ended that isn't the last, with the number of each port's next statement. It comes to
+    /// the history, and the lane of each port marks it, in ascending order.
+    pub fn end_phase<M: Marks<N>>(&mut self, next: &[u32; 8], lanes: &mut M)
+        requires room { HasRoomFor 1 self.old.history }
+        requires next { next.now ≡ M.next lanes.old }
+        requires lanes { HasEachPass (St.state self.old.store).held.heads.ports.count
+            (M.passes lanes.old) }
+        ensures history { self.new.history ≡ self.old.history ++ PhaseEnd next.now ∷ [] }
+        ensures store { self.new.store ≡ self.old.store }
+        ensures marked { MarkedInTurn M.marked self.new.history
+            (range_with_len 0 (St.state self.old.store).held.heads.ports.count)
+            lanes.old lanes.new }
+        ensures passes { M.passes lanes.new ≡ M.passes lanes.old }
+    {
+        let count = self.store.heads().ports.count;
+        self.pen.add_phase_end(next);
+        mark_each(lanes, &mut self.pen, count);
     }
 
     /// How many records were committed in the section.

@@ -3,9 +3,12 @@
 #![tactic(auto)]
 
 mod book;
+mod crossing;
 mod entry;
 mod fault;
 mod history;
+mod keeper;
+mod marks;
 mod pass;
 mod pen;
 mod receipt;
@@ -13,8 +16,11 @@ mod section_name;
 mod shared;
 
 pub use book::{Begun, Book};
+pub use crossing::{books_cross_threads, passes_cross_threads};
 pub use entry::HistoryEntry;
 pub use fault::BookFault;
+pub use keeper::Keeper;
+pub use marks::Marks;
 pub use pass::Pass;
 pub use pen::Pen;
 pub use receipt::Receipt;
