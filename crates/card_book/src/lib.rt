@@ -26,3 +26,6 @@ pub use pen::Pen;
 pub use receipt::Receipt;
 pub use section_name::SectionName;
 pub use shared::Shared;
+
+#[cfg(test)]
+mod tests;
