@@ -105,8 +105,6 @@ pub holds_more : (holds : List ℕ → Durable → Type 0) (begun : Durable)
 holds_more holds begun history more image (held, inl was, it_holds) =
     (held, inl (held_more begun history more held was), it_holds)
 holds_more holds begun history more image
-    (held, inr (before, entry, later, failed, held_is), it_holds) = (
-      held,
-      inr (before, entry, later ++ more, failed_more history before entry later more failed, held_is),
-      it_holds,
-    )
+    (held, inr (before, entry, later, failed, held_is), it_holds) =
+    let stays = failed_more history before entry later more failed in
+    (held, inr (before, entry, later ++ more, stays, held_is), it_holds)

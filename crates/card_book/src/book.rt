@@ -57,7 +57,8 @@ pub struct Begun<St: CardStore, N: SectionName> {
 fn commit_if_it_fits<St: CardStore>(store: &mut St, entry: &Record) -> Result<(), BookFault>
     requires { St.is_open store.old }
     ensures open { St.is_open store.new }
-    ensures fits { ¬ IsErrOf result BookFault.Unfit → MayCommit (St.state store.old).held entry.now }
+    ensures fits { ¬ IsErrOf result BookFault.Unfit
+        → MayCommit (St.state store.old).held entry.now }
     ensures unfit { IsErrOf result BookFault.Unfit → (store.new ≡ store.old)
         × (¬ MayCommit (St.state store.old).held entry.now) }
     ensures step { StoreStep St.holds St.is_used_up (St.state store.old) (St.state store.new)
@@ -80,8 +81,8 @@ fn commit_if_it_fits<St: CardStore>(store: &mut St, entry: &Record) -> Result<()
 }
 
 impl<St: CardStore, N: SectionName> Book<St, N> {
-    /// Begins a section, with an empty history and a pass for each port of the card. A refusal hands
-    /// the store back as it was.
+    /// Begins a section, with an empty history and a pass for each port of the card. It takes memory
+    /// for these passes and one word. A refusal hands the store back as it was.
     pub fn begin(alloc: Global, store: St) -> Result<Begun<St, N>, Back<St, NoMemory>>
         requires open { St.is_open store }
         requires repaired { (St.state store).unrepaired ≡ None }
@@ -166,8 +167,8 @@ impl<St: CardStore, N: SectionName> Book<St, N> {
         mark_each(lanes, &mut self.pen, count);
     }
 
-    /// A phase ended that isn't the last, with the number of each port's next statement. It comes to
-    /// the history, and the lane of each port marks it, in ascending order.
+    /// A phase ended that isn't the last, with the number of each port's next statement. It comes
+    /// to the history, and the lane of each port marks it, in ascending order.
     pub fn end_phase<M: Marks<N>>(&mut self, next: &[u32; 8], lanes: &mut M)
         requires room { HasRoomFor 1 self.old.history }
         requires next { next.now ≡ M.next lanes.old }

@@ -12,8 +12,9 @@ invariant_of-self g c =
       subst (GoesBy store.holds store.is_used_up g.N.SectionName.begun (store.state new))
           (sym c.add_commit.ensures.history)
           (goes_on_by store.holds store.is_used_up g.N.SectionName.begun
-          (store.state c.self.inside.store) (store.state new) c.self.inside.pen.history c.port.result
-          c.args.entry.now None (g.met.St.CardStore.lawful new) c.self.invariant.1 c.in-Ok.ensures.step),
+          (store.state c.self.inside.store) (store.state new) c.self.inside.pen.history
+          c.port.result c.args.entry.now None (g.met.St.CardStore.lawful new)
+          c.self.invariant.1 c.in-Ok.ensures.step),
     )
 
 pub returns-in-Ok-clause-kept : goal.returns-in-Ok-clause-kept
@@ -29,8 +30,8 @@ invariant_of-self-in-Err g c =
           (sym c.add_failure.ensures)
           (goes_on_by store.holds store.is_used_up g.N.SectionName.begun
           (store.state c.self.inside.store) (store.state new) c.self.inside.pen.history
-          c.port-in-Err.result c.args.entry.now (Some c.in-Err.fault) (g.met.St.CardStore.lawful new)
-          c.self.invariant.1 c.in-Err.ensures.step),
+          c.port-in-Err.result c.args.entry.now (Some c.in-Err.fault)
+          (g.met.St.CardStore.lawful new) c.self.invariant.1 c.in-Err.ensures.step),
     )
 
 pub returns-in-Err-clause-kept : goal.returns-in-Err-clause-kept
