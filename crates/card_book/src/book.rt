@@ -81,8 +81,8 @@ fn commit_if_it_fits<St: CardStore>(store: &mut St, entry: &Record) -> Result<()
 }
 
 impl<St: CardStore, N: SectionName> Book<St, N> {
-    /// Begins a section, with an empty history and a pass for each port of the card. It takes memory
-    /// for these passes and one word. A refusal hands the store back as it was.
+    /// Begins a section, with an empty history and a pass for each port of the card. It takes
+    /// memory for these passes and one word. A refusal hands the store back as it was.
     pub fn begin(alloc: Global, store: St) -> Result<Begun<St, N>, Back<St, NoMemory>>
         requires open { St.is_open store }
         requires repaired { (St.state store).unrepaired ≡ None }
