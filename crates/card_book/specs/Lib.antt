@@ -1,0 +1,11 @@
+pub mod Book
+pub mod Faults
+pub mod History
+pub mod Images
+pub mod Keeper
+pub mod Marks
+pub mod Pass
+pub mod Pen
+pub mod SectionName
+pub mod Step
+pub mod Unrepaired
