@@ -6,6 +6,7 @@ pub mod CopyLemmas
 pub mod CopyRowLemmas
 pub mod EraseLemmas
 pub mod HeldCardLemmas
+pub mod HeldCopyLemmas
 pub mod ImageLemmas
 pub mod MakeLemmas
 pub mod OpenLemmas

@@ -29,7 +29,7 @@ use Rattle.record_codec.specs.declared.record.Record.TheVariants.{PutCard, PutPr
 use Rattle.record_codec.specs.declared.record.Record.TheVariants.{Bind, Unbind, Gone, Name}
 use Rattle.record_codec.specs.declared.record.Record.TheVariants.{NoteGone}
 use Rattle.card_journal.specs.Image.{AreCodings, HoldsCard, Leave, bank_of, live_bytes, switch_row}
-use Rattle.card_journal.specs.Made.{FirstUsedIs, HoldsNoneOr, IsBlank, IsFirstUsed}
+use Rattle.card_journal.specs.Made.{FirstUsedIs, HoldsNoneOr, IsBlank, IsFirstUsed, LeavesUsed}
 use Rattle.card_journal.specs.MakeFault.{IsReason}
 use Rattle.card_journal.specs.declared.make.NotMade.{NotMade}
 use Rattle.card_journal.specs.Read.{OnlyReads}
@@ -196,6 +196,13 @@ pub blank_after : (a b : FlashState) (used : Option ℕ) → b.bytes ≡ a.bytes
 blank_after a b None same none first =
     from_each b.bytes _ (λ image is. at_some a.bytes (FirstUsedIs 0 9965568 None) image (sym same ∙ is) first)
 blank_after a b (Some place) same none first = absurd (none place refl)
+
+-- what was only read, and what is blank, is left as it was where it isn't blank
+pub used_read : (a b : FlashState) → OnlyReads a b → LeavesUsed a b
+used_read a b reads = from_each a.bytes _ (λ image is not. reads)
+
+pub used_blank : (a b : FlashState) → IfSome a.bytes IsBlank → LeavesUsed a b
+used_blank a b is_blank = from_each a.bytes _ (λ image is not. absurd (not (at_some a.bytes IsBlank image is is_blank)))
 
 -- the fault that a `?` makes
 pub refused_by : {T : Type 0} (r : Result T NotMade) (a b : FlashState) (fault : NotMade) → IsReason fault a b → (y : NotMade) → r ≡ Err y → y ≡ fault

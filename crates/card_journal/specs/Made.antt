@@ -1,9 +1,10 @@
 -- A new card on a blank flash.
 use Rattle.std.specs.Prelude.{ℕ, ◌≢◌, ◌⊎◌, ◌*◌, ◌-◌, ◌≤◌, ◌<◌, List, [], slice_index, Option, Some}
-use Rattle.std.specs.Prelude.{None}
+use Rattle.std.specs.Prelude.{None, IfSome}
 use Rattle.card_journal.specs.Image.{HoldsCard}
 use Rattle.flash_pages.specs.Bytes.{IsErased}
-use Rattle.flash_pages.specs.Flash.{block_len, card_blocks}
+use Rattle.card_journal.specs.Read.{OnlyReads}
+use Rattle.flash_pages.specs.Flash.{FlashState, block_len, card_blocks}
 use Rattle.port_table.specs.declared.port_mode.PortMode.{PortMode}
 use Rattle.record_codec.specs.IsDurable.{fewest_ports}
 use Rattle.record_codec.specs.PutCard.{new_card}
@@ -32,6 +33,10 @@ pub record IsFirstUsed (from place : ℕ) (image : List ℕ) : Type 0 where
 abbrev pub FirstUsedIs : ℕ → ℕ → Option ℕ → List ℕ → Type 0
 FirstUsedIs from to None image = IsErased from (to - from) image
 FirstUsedIs from to (Some place) image = (place < to) × IsFirstUsed from place image
+
+-- a flash on which a byte isn't FF is only read
+abbrev pub LeavesUsed : FlashState → FlashState → Type 0
+LeavesUsed old new = IfSome old.bytes (λ image. ¬ IsBlank image → OnlyReads old new)
 
 -- the image holds no card, or this one
 abbrev pub HoldsNoneOr : Durable → List ℕ → Type 0

@@ -63,9 +63,10 @@ IsWorn flash = IfSome flash.bytes (λ image. IsNextByte (switch_row image) None)
 abbrev pub HasNextByte : FlashState → Type 0
 HasNextByte flash = IfSome flash.bytes (λ image. ¬ IsNextByte (switch_row image) None)
 
--- A store that wasn't opened since the switch row is used up: it needed a switch, since no card
--- ends clean in the live bank, and the flash was only read.
+-- A store that wasn't opened since the switch row is used up: the flash holds a card, the opening
+-- needed a switch, since no card ends clean in the live bank, and the flash was only read.
 pub record IsNotOpenedWorn (old new : FlashState) : Type 0 where
+  pub card : IfSome old.bytes (λ image. (held : Durable) × HoldsCard image held)
   pub needed : IfSome old.bytes EndsTorn
   pub worn : IsWorn old
   pub reads : OnlyReads old new

@@ -13,6 +13,7 @@ mod copy_body;
 mod erase;
 mod fault;
 mod held;
+mod held_copy;
 mod laws;
 mod make;
 mod make_fault;
@@ -30,6 +31,7 @@ pub use card_store::CardStore;
 pub use commit_fault::CommitFault;
 pub use copy_body::CopyBody;
 pub use fault::ReadFault;
+pub use held_copy::copy_held;
 pub use laws::{
     copies_leave_room, copies_leave_the_card, images_hold_one_card, records_are_appended,
 };

@@ -2,7 +2,7 @@
 ghost use Rattle.std.specs.Prelude.{◌≡◌, [], IfErr, IfOk, IfSome, OnOk};
 ghost use Rattle.port_io.specs.Faults.{FailsOnlyWhereRose};
 ghost use Rattle.card_journal.specs.Image.{HoldsCard, bank_of};
-ghost use Rattle.card_journal.specs.Made.{HasPorts, HoldsNoneOr, IsBlank, made_card};
+ghost use Rattle.card_journal.specs.Made.{HasPorts, HoldsNoneOr, IsBlank, LeavesUsed, made_card};
 ghost use Rattle.card_journal.specs.MakeFault.{IsReason, reported};
 ghost use Rattle.card_journal.specs.Stored.{EndsClean};
 ghost use Rattle.card_journal.specs.declared.make.NotMade.TheVariants.{Flash as FlashFailed};
@@ -162,6 +162,7 @@ pub(crate) fn make_card<F: Flash>(
     ensures images { IfSome (F.state flash.old).bytes IsBlank
         → LeavesOnly (F.state flash.old) (F.state flash.new)
         (HoldsNoneOr (made_card mode ports eid)) }
+    ensures used { LeavesUsed (F.state flash.old) (F.state flash.new) }
     ensures time { GoesOn (F.state flash.old) (F.state flash.new) }
     ensures refused { IfErr result (λ fault.
         IsReason fault (F.state flash.old) (F.state flash.new)) }

@@ -6,7 +6,7 @@ ghost use Rattle.card_journal.specs.CardStoreState.{CameBack};
 ghost use Rattle.card_journal.specs.CommitFault.{IsCauseOf};
 ghost use Rattle.card_journal.specs.Held.{PutsProfile, RoomIsFor};
 ghost use Rattle.card_journal.specs.Image.{HoldsCard, bank_of};
-ghost use Rattle.card_journal.specs.Made.{HasPorts, HoldsNoneOr, IsBlank, made_card};
+ghost use Rattle.card_journal.specs.Made.{HasPorts, HoldsNoneOr, IsBlank, LeavesUsed, made_card};
 ghost use Rattle.card_journal.specs.MakeFault.{IsRefused};
 ghost use Rattle.card_journal.specs.OpenFault.{HasRisen};
 ghost use Rattle.card_journal.specs.Read.{OnlyReads};
@@ -80,6 +80,7 @@ impl<F: Flash> BankStore<F> {
             → LeavesOnly (F.state flash) (F.state back.value)
             (HoldsNoneOr (made_card mode ports eid))) }
         ensures time { IfOk result (λ store. GoesOn (F.state flash) (F.state store.flash)) }
+        ensures used { IfErr result (λ back. LeavesUsed (F.state flash) (F.state back.value)) }
         ensures refused { IfErr result (λ back.
             IsRefused back.fault (F.state flash) (F.state back.value)) }
     {

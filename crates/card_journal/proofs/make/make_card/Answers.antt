@@ -3,7 +3,7 @@ use Rattle.std.proofs.lemmas.Result.{err_from_is_err_and}
 use Rattle.card_journal.specs.declared.make.NotMade.TheVariants.{Flash, NoMemory}
 use Rattle.card_journal.proofs.BankLemmas.{reads_none}
 use Rattle.card_journal.proofs.MakeLemmas.{blank_after, clean_kept, read_images, refused_by}
-use Rattle.card_journal.proofs.MakeLemmas.{used_at}
+use Rattle.card_journal.proofs.MakeLemmas.{used_at, used_blank, used_read}
 use Rattle.card_journal.specs.Made.{HoldsNoneOr, made_card}
 use Rattle.flash_pages.specs.Flash.{LeavesOnly}
 use Rattle.flash_pages.proofs.Touched.{GoesOn-trans, LeavesOnly-trans}
@@ -96,3 +96,27 @@ returns-in_err-end-clause-refused g c =
     let p = err_from_is_err_and c.from_residual-in_err-end.result c.from_residual-in_err-end.ensures.1 in
     refused_by c.from_residual-in_err-end.result (g.F.Flash.state c.args.flash.now) (g.F.Flash.state c.append_first.new.flash) Flash
     (omega (arith, c.in_err-end.ensures.cause, c.first_used.ensures.reads.time.faults)) p.0 p.1 p.2
+
+pub returns-in_err-held-clause-used : goal.returns-in_err-held-clause-used
+returns-in_err-held-clause-used g c =
+    used_read (g.F.Flash.state c.args.flash.now) (g.F.Flash.state c.args.flash.now) (reads_none (g.F.Flash.state c.args.flash.now) (g.met.F.Flash.lawful c.args.flash.now))
+
+pub returns-in_err-used-clause-used : goal.returns-in_err-used-clause-used
+returns-in_err-used-clause-used g c =
+    used_read (g.F.Flash.state c.args.flash.now) (g.F.Flash.state c.first_used.new.flash) c.first_used.ensures.reads
+
+pub returns-in-Some-clause-used : goal.returns-in-Some-clause-used
+returns-in-Some-clause-used g c =
+    used_read (g.F.Flash.state c.args.flash.now) (g.F.Flash.state c.first_used.new.flash) c.first_used.ensures.reads
+
+pub returns-in_err-end-clause-used : goal.returns-in_err-end-clause-used
+returns-in_err-end-clause-used g c =
+    used_blank (g.F.Flash.state c.args.flash.now) (g.F.Flash.state c.append_first.new.flash)
+    (blank_after (g.F.Flash.state c.args.flash.now) (g.F.Flash.state c.args.flash.now) c.in_ok-used.used refl
+    (first_of (search (rules, c.in_default.not-Some), grind (arith, c.in_default.not-Some))) c.in_ok-used.ensures.first)
+
+pub returns-clause-used : goal.returns-clause-used
+returns-clause-used g c =
+    used_blank (g.F.Flash.state c.args.flash.now) (g.F.Flash.state c.append_first.new.flash)
+    (blank_after (g.F.Flash.state c.args.flash.now) (g.F.Flash.state c.args.flash.now) c.in_ok-used.used refl
+    (first_of (search (rules, c.in_default.not-Some), grind (arith, c.in_default.not-Some))) c.in_ok-used.ensures.first)
