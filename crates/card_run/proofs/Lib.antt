@@ -1,4 +1,5 @@
 pub mod DemoLemmas
 pub mod EndsLemmas
+pub mod ImagesLemmas
 pub mod LoadLemmas
 pub mod WordsLemmas

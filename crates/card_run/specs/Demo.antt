@@ -1,8 +1,6 @@
 -- What `demo` prints.
-use Rattle.std.specs.Prelude.{◌≡◌, ℕ, ◌+◌, Option, None, List, [], ◌∷◌, map, take, codes}
-use Rattle.std.specs.Prelude.{String, string_bytes}
+use Rattle.std.specs.Prelude.{◌≡◌, ℕ, ◌+◌, Option, None, List, [], ◌∷◌, map, take}
 use Rattle.std.specs.Io.KnownBytes.{Appends}
-use Rattle.std.specs.declared.alloc.Global.{Global}
 use Rattle.apdu_codec.specs.declared.answers.Answer.{Answer}
 use Rattle.card_core.specs.Text.{log_text}
 use Rattle.card_core.specs.declared.entry.Entry.{Entry}
@@ -16,10 +14,6 @@ use Rattle.profile_card.specs.Step.{Runs}
 use Rattle.script_text.specs.Ports.{statements_of}
 use Rattle.script_text.specs.Script.{IsScript}
 use Rattle.script_text.specs.declared.line_set.LineSet.TheVariants.{PortOne}
-
--- the one word `demo`
-abbrev pub IsDemo : List (String Global) → Type 0
-IsDemo words = map string_bytes words ≡ codes "demo" ∷ []
 
 -- the text is a script of commands at port 1
 abbrev pub IsSomeScript : List ℕ → Type 0

@@ -1,2 +1,4 @@
 pub mod Demo
 pub mod Ends
+pub mod Images
+pub mod Words

@@ -16,13 +16,12 @@ ghost use Rattle.script_text.specs.Item.Item.{Stated};
 ghost use Rattle.script_text.specs.Lent.{event_of, lent_item};
 ghost use Rattle.script_text.specs.Script.{IsScript, script_of, statement_in};
 ghost use Rattle.script_text.specs.declared.line_set.LineSet.TheVariants.{PortOne};
-ghost use Rattle.card_run.specs.Demo.{IsAnswerText, IsDemo, IsRun, WritesPrefix, answer_entry};
+ghost use Rattle.card_run.specs.Demo.{IsAnswerText, IsRun, WritesPrefix, answer_entry};
 ghost use Rattle.card_run.specs.Demo.{command_of, demo_text};
-ghost use Rattle.card_run.specs.Ends.{HasCause, HasLoadCause, HasWriteCause, IsEndOf, LeavesAlone};
-ghost use Rattle.card_run.specs.Ends.{streams};
+ghost use Rattle.card_run.specs.Ends.{HasLoadCause, HasRunCause, HasWriteCause, IsEndOf};
+ghost use Rattle.card_run.specs.Ends.{LeavesAlone, streams};
 
 use crate::status::Status;
-use crate::words::is_demo;
 use apdu_codec::{Answer, read_command};
 use file_rows::Change;
 use port_io::{Failed, ReadError, Sink, Source, read_source, write_all};
@@ -170,44 +169,26 @@ fn answer_all<K: Sink>(alloc: Global, script: &ScriptItems, out: &mut K) -> Resu
     Ok(())
 }
 
-/// Does all that the program does: with the words `demo` it reads a script from the source, sends
-/// its commands to the sample card at port 1, and writes the answers, one a line.
+/// Reads a script from the source, sends its commands to the sample card at port 1, and writes the
+/// answers, one a line.
 ///
 /// The script is read whole before anything is written. Memory is taken for a command only where
 /// its change needs it.
-pub fn demo_main<S: Source, K: Sink>(
-    alloc: Global,
-    words: &[String],
-    script: &mut S,
-    out: &mut K,
-) -> Status
-    // Each status has its cause: in the words, in the text that the source had, or in a count of
-    // faults.
-    ensures cause { HasCause words.now
+pub fn demo<S: Source, K: Sink>(alloc: Global, script: &mut S, out: &mut K) -> Status
+    ensures cause { HasRunCause
         (streams (S.left script.old) (S.faults script.old) (K.written out.old) (K.faults out.old))
         (streams (S.left script.new) (S.faults script.new) (K.written out.new) (K.faults out.new))
         result }
-
-    // Where no fault is counted and memory is there, the text decides: a script is answered to its
-    // end, and any other text is refused with its first fault.
-    ensures complete { IsDemo words.now → ¬ Rose (S.faults script.old) (S.faults script.new)
+    ensures complete { ¬ Rose (S.faults script.old) (S.faults script.new)
         → ¬ Rose (K.faults out.old) (K.faults out.new)
         → IfSome (S.left script.old) (λ text. IsEndOf text result) }
-
-    // However it ends, what was written is a prefix of the text of the answers.
     ensures prefix { IfSome (S.left script.old) (λ text. (answers : List ℕ)
         → IsAnswerText text answers
         → WritesPrefix (K.written out.old) (K.written out.new) answers) }
-
-    // What isn't used stays as it was, and no fault that was counted is forgotten.
-    ensures left_alone { LeavesAlone (S.left script.old)
-        script.old script.new out.old out.new result }
+    ensures left_alone { LeavesAlone (S.left script.old) out.old out.new result }
     ensures read_count { NeverFalls (S.faults script.old) (S.faults script.new) }
     ensures write_count { NeverFalls (K.faults out.old) (K.faults out.new) }
 {
-    if !is_demo(words) {
-        return Status::Usage;
-    }
     let commands = match load(alloc, script) {
         Ok(commands) => commands,
         Err(status) => return status,

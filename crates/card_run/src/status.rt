@@ -20,8 +20,17 @@ pub enum Status {
     ReadFault,
     /// The text could not be written; a prefix of it was.
     WriteFault,
+    /// The flash could not be taken, made, opened or restarted: its count of faults rose.
+    FlashFault { before: u64, after: u64 },
+    /// The image holds no card.
+    NotACard,
     /// Out of memory; a prefix of the text was written.
     NoMemory,
+    /// A card is made on a blank flash alone: the byte at this place, from 0, is the first that
+    /// isn't FF.
+    NotBlank { place: u32 },
+    /// Opening needs a switch, and the switch row has no FF byte left.
+    Worn,
 }
 
 impl Status {
@@ -35,7 +44,11 @@ impl Status {
             Status::Script { .. } => 3,
             Status::ReadFault => 4,
             Status::WriteFault => 5,
+            Status::FlashFault { .. } => 6,
+            Status::NotACard => 7,
             Status::NoMemory => 8,
+            Status::NotBlank { .. } => 9,
+            Status::Worn => 10,
         }
     }
 }
@@ -51,7 +64,11 @@ impl fmt::Display for Status {
             Status::Script { line, kind } => write!(f, "script: line {line}: {kind}"),
             Status::ReadFault => f.write_str("read fault"),
             Status::WriteFault => f.write_str("write fault"),
+            Status::FlashFault { .. } => f.write_str("flash fault"),
+            Status::NotACard => f.write_str("not a card"),
             Status::NoMemory => f.write_str("no memory"),
+            Status::NotBlank { place } => write!(f, "not blank at {place}"),
+            Status::Worn => f.write_str("worn"),
         }
     }
 }

@@ -3,11 +3,15 @@
 ghost use Rattle.std.specs.Prelude.{Some};
 
 use super::*;
-use crate::demo::demo_main;
+use crate::alone::run_alone;
+use crate::demo::demo;
+use flash_pages::{FlashPlan, MemoryFlash, MemoryShelf};
 use port_io::{Failed, MemorySink, MemorySource, Sink};
 use script_text::ScriptKind;
 use std::alloc::{AllocError, Global};
 use std::test::Fail;
+
+mod images;
 
 const WORKED: &str = "\
 port 1: 00A4000C022FE2
@@ -16,6 +20,8 @@ port 1: 00B000000B
 port 1: 00B0000A01
 port 1: 0084000008
 ";
+
+const EID: &str = "89049032000000000000000000000001";
 
 const ANSWERS: &str = "1.1 9000\n1.2 989400000000000000F19000\n1.3 6C0A\n1.4 6B00\n1.5 6D00\n";
 
@@ -26,6 +32,22 @@ fn words_of(alloc: Global, words: &[&str]) -> Result<Vec<String>, AllocError> {
         all.push(String::from_str(alloc, word)?)?;
     }
     Ok(all)
+}
+
+// A flash that doesn't fail, whose images aren't kept.
+fn plan(alloc: Global) -> Result<FlashPlan, AllocError> {
+    failing(alloc, &[], &[])
+}
+
+// Program and erase calls of the first numbers fail, and reads of the second.
+fn failing(alloc: Global, calls: &[u64], reads: &[u64]) -> Result<FlashPlan, AllocError> {
+    Ok(FlashPlan {
+        fail: calls.to_vec(alloc)?,
+        fail_reads: reads.to_vec(alloc)?,
+        cut: None,
+        torn: Vec::new(alloc),
+        kept: 0,
+    })
 }
 
 // How the program ends on a script in memory, and what it wrote. One call of the source and one of
@@ -41,7 +63,8 @@ fn run(
     let bytes = Vec::from_slice(alloc, script.as_bytes())?;
     let mut source = MemorySource::new(bytes, Vec::from_slice(alloc, &[failing.0])?);
     let mut sink = MemorySink::new(alloc, room, Vec::from_slice(alloc, &[failing.1])?)?;
-    let status = demo_main(alloc, words.as_slice(), &mut source, &mut sink);
+    let mut shelf = MemoryShelf::new(String::new(alloc), MemoryFlash::new(alloc, plan(alloc)?)?);
+    let status = run_alone(alloc, words.as_slice(), &mut source, &mut sink, &mut shelf);
     Ok((status, sink.into_bytes()))
 }
 
@@ -81,7 +104,31 @@ fn a_modem_selects_with_control_parameters(rt: HostRuntime) -> Result<(), Fail> 
 
 #[test]
 fn other_words_are_usage_and_read_nothing(rt: HostRuntime) -> Result<(), Fail> {
-    let rows: [&[&str]; 5] = [&[], &["demo", "demo"], &["new"], &["Demo"], &["--help"]];
+    let rows: [&[&str]; 14] = [
+        &[],
+        &["demo", "demo"],
+        &["new"],
+        &["Demo"],
+        &["--help"],
+        &["list"],
+        &["list", ""],
+        &["list", "-c.img"],
+        &["list", "c.img", "more"],
+        &["new", "c.img", "--mode", "A1", "--ports", "1", "--eid", EID],
+        &["new", "c.img", "--mode", "B", "--ports", "9", "--eid", EID],
+        &["new", "c.img", "--mode", "B", "--ports", "01", "--eid", EID],
+        &["new", "c.img", "--ports", "3", "--mode", "A1", "--eid", EID],
+        &[
+            "new",
+            "c.img",
+            "--mode",
+            "A1",
+            "--ports",
+            "3",
+            "--eid",
+            &EID[1..],
+        ],
+    ];
     for words in rows {
         let (status, text) = run(rt.alloc(), words, "port 3:\n", (1, 1), 10)?;
         assert_eq!(rt; status, Status::Usage, "at {words:?}");
@@ -142,16 +189,12 @@ impl Sink for OneByOne {
 #[test]
 fn a_sink_that_takes_one_byte_at_a_time_gets_it_all(rt: HostRuntime) -> Result<(), Fail> {
     let alloc = rt.alloc();
-    let words = words_of(alloc, &["demo"])?;
     let bytes = Vec::from_slice(alloc, WORKED.as_bytes())?;
     let mut source = MemorySource::new(bytes, Vec::new(alloc));
     let mut out = OneByOne {
         sink: MemorySink::new(alloc, 1_000, Vec::new(alloc))?,
     };
-    assert_eq!(rt;
-        demo_main(alloc, words.as_slice(), &mut source, &mut out),
-        Status::Done
-    );
+    assert_eq!(rt; demo(alloc, &mut source, &mut out), Status::Done);
     assert_eq!(rt; out.sink.bytes(), ANSWERS.as_bytes());
     Ok(())
 }
@@ -173,7 +216,18 @@ fn each_status_has_its_number_and_text(rt: HostRuntime) -> Result<(), Fail> {
         ),
         (Status::ReadFault, 4, "read fault"),
         (Status::WriteFault, 5, "write fault"),
+        (
+            Status::FlashFault {
+                before: 1,
+                after: 2,
+            },
+            6,
+            "flash fault",
+        ),
+        (Status::NotACard, 7, "not a card"),
         (Status::NoMemory, 8, "no memory"),
+        (Status::NotBlank { place: 4096 }, 9, "not blank at 4096"),
+        (Status::Worn, 10, "worn"),
     ];
     for (status, number, text) in rows {
         assert_eq!(rt; status.number(), number);
