@@ -130,8 +130,8 @@ which_failed steps = map (λ step. step.failed) steps
 abbrev pub lines_at : ℕ → List Entry → List Entry
 lines_at port entries = filter (λ entry. entry.port == port) entries
 
--- a stretch by itself: the port's own statements of it alone, from this card, of which the same ones
--- fail, make the same lines there and leave the same there
+-- a stretch by itself: the port's own statements of it alone, from this card, of which the same
+-- ones fail, make the same lines there and leave the same there
 pub record RunsByItself (port : ℕ) (start : WorldState) (events : List Event)
     (steps : List Stepped) (after : WorldState) : Type 0 where
   pub alone : List Stepped

@@ -7,8 +7,8 @@ use Rattle.script_text.specs.declared.line_set.LineSet.TheVariants.{PortOne}
 use Rattle.card_run.specs.Demo.{IsAnswerText, IsSomeScript, WritesPrefix}
 use Rattle.card_run.specs.declared.status.Status.{Status}
 use Rattle.card_run.specs.declared.status.Status.TheVariants.{Done, Usage, Script, ReadFault}
-use Rattle.card_run.specs.declared.status.Status.TheVariants.{WriteFault, FlashFault, NotACard, NoMemory, NotBlank}
-use Rattle.card_run.specs.declared.status.Status.TheVariants.{Worn}
+use Rattle.card_run.specs.declared.status.Status.TheVariants.{WriteFault, FlashFault, NotACard}
+use Rattle.card_run.specs.declared.status.Status.TheVariants.{NoMemory, NotBlank, Worn}
 
 -- the number with which the process ends
 abbrev pub status_number : Status → ℕ

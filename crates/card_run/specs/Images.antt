@@ -71,8 +71,8 @@ IsListed old before after (status.Script line kind) = ⊥
 IsListed old before after status.ReadFault = ⊥
 IsListed old before after (status.NotBlank place) = ⊥
 
--- a new card was made on a blank flash, which then keeps it, also over a restart, and its listing was
--- printed
+-- a new card was made on a blank flash, which then keeps it, also over a restart, and its listing
+-- was printed
 pub record PrintsMade (card : Durable) (old new : FlashState) (before after : Output)
     (status : Status) : Type 0 where
   pub blank : IfSome old.bytes IsBlank
@@ -122,8 +122,8 @@ KeepsCards old new =
     (held : Durable) → MayLeaveOnly old (λ content. HoldsCard content held)
     → Throughout (λ content. HoldsCard content held) old new
 
--- what the making of a card leaves: of a blank flash at each moment no card or the new one; any other
--- flash is only read
+-- what the making of a card leaves: of a blank flash at each moment no card or the new one; any
+-- other flash is only read
 pub record LeavesNoneOr (card : Durable) (old new : FlashState) : Type 0 where
   pub blank : IfSome old.bytes IsBlank → LeavesOnly old new (HoldsNoneOr card)
   pub used : LeavesUsed old new

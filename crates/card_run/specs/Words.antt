@@ -14,8 +14,8 @@ abbrev pub IsImageName : List ℕ → Type 0
 IsImageName [] = ⊥
 IsImageName (byte ∷ bytes) = byte ≢ 45
 
--- The words spell the card: the mode is `A1`, `A2` or `B`, the number of ports one digit, that a card of
--- the mode may have, and the EID 32 hex digits in either case.
+-- The words spell the card: the mode is `A1`, `A2` or `B`, the number of ports one digit, that a
+-- card of the mode may have, and the EID 32 hex digits in either case.
 pub record AreSpelled (card : NewCard) (mode ports eid : List ℕ) : Type 0 where
   pub mode_is : mode ≡ mode_text card.mode
   pub ports_are : ports ≡ (48 + card.ports) ∷ []
