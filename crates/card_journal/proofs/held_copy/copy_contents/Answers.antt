@@ -14,6 +14,7 @@ loop-head-preserved g c =
     let is = subst (λ store. held_content c.head-item.result.number (g.St.CardStore.state store).held ≡ Some c.in_ok-load.field-0)
     c.loop-head.invariant.0 c.in_ok-load.ensures.loaded in
     let next = copied_next (g.St.CardStore.state c.args.store.now).held c.loop-head.head-index c.head-item.result c.in_ok-load.field-0
-    (g.met.St.CardStore.valid c.args.store.now c.requires.open) at is in
-    (c.load.ensures.same ∙ c.loop-head.invariant.0,
-    c.in_ok-push.ensures.items ∙ ap (λ (l : List Content). l ++ (c.in_ok-load.field-0 ∷ [])) c.loop-head.invariant.1 ∙ sym next)
+    (g.met.St.CardStore.valid c.args.store.now c.requires.open) at is in (
+      c.load.ensures.same ∙ c.loop-head.invariant.0,
+      c.in_ok-push.ensures.items ∙ ap (λ (l : List Content). l ++ (c.in_ok-load.field-0 ∷ [])) c.loop-head.invariant.1 ∙ sym next,
+    )
