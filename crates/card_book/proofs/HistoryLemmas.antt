@@ -4,7 +4,7 @@ use Rattle.std.proofs.Common.{◌∙◌, ap, arith, Option, None, Some, append_a
 use Rattle.std.proofs.lemmas.Grind.{flat_map-append}
 use Rattle.std.proofs.lemmas.List.{append-nil}
 use Rattle.card_book.specs.Faults.{AreApart, Rise, rise_in, rises_of}
-use Rattle.card_book.specs.History.{record_in, records_of, shared_of}
+use Rattle.card_book.specs.History.{committed_in, records_of, shared_of}
 use Rattle.card_book.specs.Images.{HoldsPart, WasHeld}
 use Rattle.card_book.specs.Unrepaired.{FailedAt, IsUnrepaired}
 use Rattle.card_book.specs.declared.entry.HistoryEntry.{HistoryEntry}
@@ -42,7 +42,7 @@ few_shared (PhaseEnd next ∷ history) = omega (arith, few_shared history)
 pub records_stay : (history more : List HistoryEntry) → records_of more ≡ []
     → records_of (history ++ more) ≡ records_of history
 records_stay history more none =
-    flat_map-append record_in history more ∙ ap (λ records. records_of history ++ records) none
+    flat_map-append committed_in history more ∙ ap (λ records. records_of history ++ records) none
     ∙ append-nil (records_of history)
 
 pub rises_stay : (history more : List HistoryEntry) → rises_of more ≡ []

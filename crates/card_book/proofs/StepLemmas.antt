@@ -7,9 +7,9 @@ use Rattle.std.proofs.lemmas.Bool.{false≢true}
 use Rattle.std.proofs.lemmas.Grind.{flat_map-append}
 use Rattle.std.proofs.lemmas.List.{append-nil}
 use Rattle.std.proofs.lemmas.List.Folds.{list_any-append}
-use Rattle.card_book.specs.Book.{GoesBy}
+use Rattle.card_book.specs.Book.{GoesByHistory}
 use Rattle.card_book.specs.Faults.{AreApart, Rise, is_refused_worn, rise_in, rises_of}
-use Rattle.card_book.specs.History.{record_in, records_of}
+use Rattle.card_book.specs.History.{committed_in, records_of}
 use Rattle.card_book.specs.Images.{HoldsPart}
 use Rattle.card_book.specs.Step.{CauseIs, HeldAfter, HoldsInStep, StoreStep, UnrepairedAfter}
 use Rattle.card_book.specs.Step.{WasTried, entries_made}
@@ -32,7 +32,7 @@ use Rattle.card_book.proofs.HistoryLemmas.{holds_more, records_stay, rises_stay,
 -- a commit that was made adds its record
 records_made : (history : List HistoryEntry) (port : ℕ) (entry : Record)
     → records_of (history ++ Commit port entry ∷ []) ≡ records_of history ++ entry ∷ []
-records_made history port entry = flat_map-append record_in history (Commit port entry ∷ [])
+records_made history port entry = flat_map-append committed_in history (Commit port entry ∷ [])
 
 fold_made : (begun : Durable) (history : List HistoryEntry) (port : ℕ) (entry : Record)
     → apply (fold begun (records_of history)) entry
@@ -152,7 +152,7 @@ module _ (holds : List ℕ → Durable → Type 0) (begun : Durable) (old : Card
       (old.held, inl (history, more, refl, held), its)
   image_of_old more (Some failed) (before, later, at, last) image (inr its) =
       let same : records_of history ≡ records_of before =
-      ap records_of at.is ∙ flat_map-append record_in before
+      ap records_of at.is ∙ flat_map-append committed_in before
       (FailedCommit at.port failed (Store (Flash at.from at.upto)) ∷ later)
       ∙ ap (λ records. records_of before ++ records) last
       ∙ append-nil (records_of before) in (
@@ -206,8 +206,8 @@ module _ (holds : List ℕ → Durable → Type 0) (begun : Durable) (old : Card
 pub goes_on_by : (holds : List ℕ → Durable → Type 0) (is_used_up : ℕ → List ℕ → Type 0)
     (begun old new : CardStoreState) (history : List HistoryEntry) (port : ℕ) (entry : Record)
     (fault : Option BookFault) → IsFlash card_blocks new.flash
-    → GoesBy holds is_used_up begun old history → StoreStep holds is_used_up old new entry fault
-    → GoesBy holds is_used_up begun new (history ++ entries_made port entry fault)
+    → GoesByHistory holds is_used_up begun old history → StoreStep holds is_used_up old new entry fault
+    → GoesByHistory holds is_used_up begun new (history ++ entries_made port entry fault)
 goes_on_by holds is_used_up begun old new history port entry fault lawful goes step =
     let more = entries_made port entry fault in record {
       held = held_after begun.held old.held new.held history port entry fault goes.held step.held;
@@ -239,8 +239,8 @@ pub record SaysNothing (more : List HistoryEntry) : Type 0 where
 -- further entries of which the store knows nothing
 pub goes_by_more : (holds : List ℕ → Durable → Type 0) (is_used_up : ℕ → List ℕ → Type 0)
     (begun now : CardStoreState) (history more : List HistoryEntry) → SaysNothing more
-    → GoesBy holds is_used_up begun now history
-    → GoesBy holds is_used_up begun now (history ++ more)
+    → GoesByHistory holds is_used_up begun now history
+    → GoesByHistory holds is_used_up begun now (history ++ more)
 goes_by_more holds is_used_up begun now history more nothing goes = record {
   held = goes.held ∙ ap (fold begun.held) (sym (records_stay history more nothing.records));
   unrepaired = unrepaired_more history more now.unrepaired nothing.records goes.unrepaired;

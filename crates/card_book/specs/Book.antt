@@ -17,7 +17,7 @@ pub record BookState (St : Type 0) : Type 0 where
   pub history : List HistoryEntry
 
 -- The store has gone on from the one state to the other as the history says.
-pub record GoesBy (holds : List ℕ → Durable → Type 0) (is_used_up : ℕ → List ℕ → Type 0)
+pub record GoesByHistory (holds : List ℕ → Durable → Type 0) (is_used_up : ℕ → List ℕ → Type 0)
     (begun now : CardStoreState) (history : List HistoryEntry) : Type 0 where
   -- what is held is what the committed records make of the card
   pub held : now.held ≡ fold begun.held (records_of history)

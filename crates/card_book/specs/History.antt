@@ -10,30 +10,30 @@ use Rattle.card_book.specs.declared.shared.Shared.{Shared}
 use Rattle.record_codec.specs.declared.record.Record.{Record}
 
 -- the record that an entry says was committed
-abbrev pub record_in : HistoryEntry → List Record
-record_in (Commit port entry) = entry ∷ []
-record_in (FailedCommit port entry fault) = []
-record_in (Statement shared) = []
-record_in (PhaseEnd next) = []
+abbrev pub committed_in : HistoryEntry → List Record
+committed_in (Commit port entry) = entry ∷ []
+committed_in (FailedCommit port entry fault) = []
+committed_in (Statement shared) = []
+committed_in (PhaseEnd next) = []
 
 -- the records that were committed, in their order
 abbrev pub records_of : List HistoryEntry → List Record
-records_of history = flat_map record_in history
+records_of history = flat_map committed_in history
 
 -- the statement of an entry that needed the card as a whole
-abbrev pub shared_in : HistoryEntry → List Shared
-shared_in (Commit port entry) = []
-shared_in (FailedCommit port entry fault) = []
-shared_in (Statement shared) = shared ∷ []
-shared_in (PhaseEnd next) = []
+abbrev pub shared_statement_in : HistoryEntry → List Shared
+shared_statement_in (Commit port entry) = []
+shared_statement_in (FailedCommit port entry fault) = []
+shared_statement_in (Statement shared) = shared ∷ []
+shared_statement_in (PhaseEnd next) = []
 
 -- the statements that needed the card as a whole, in their order
 abbrev pub shared_of : List HistoryEntry → List Shared
-shared_of history = flat_map shared_in history
+shared_of history = flat_map shared_statement_in history
 
 -- so many more entries can be counted in 32 bits
-abbrev pub HasRoomFor : ℕ → List HistoryEntry → Type 0
-HasRoomFor more history = length history + more < 2 ^ 32
+abbrev pub HasEntryRoom : ℕ → List HistoryEntry → Type 0
+HasEntryRoom more history = length history + more < 2 ^ 32
 
 abbrev pub known : List HistoryEntry → Known
 known entries = record { entries = entries }
@@ -42,7 +42,7 @@ abbrev pub with_entry : Known → HistoryEntry → Known
 with_entry before entry = known (before.entries ++ entry ∷ [])
 
 -- the table's only word is the length of the history, which its only seat knows
-pub record IsKept (table : State Unit Known) : Type 0 where
+pub record KeepsHistory (table : State Unit Known) : Type 0 where
   pub entries : List HistoryEntry
   pub words : table.words ≡ length entries ∷ []
   pub views : table.views ≡ known entries ∷ []

@@ -7,7 +7,7 @@ pub record PenState : Type 0 where
   pub history : List HistoryEntry
 
 -- so many commits and so many statements that needed the card as a whole are in the history
-pub record IsCounted (history : List HistoryEntry) (commits shared : ℕ) : Type 0 where
+pub record HasCounts (history : List HistoryEntry) (commits shared : ℕ) : Type 0 where
   pub few : length history < 2 ^ 32
   pub commits_are : commits ≡ length (records_of history)
   pub shared_are : shared ≡ length (shared_of history)

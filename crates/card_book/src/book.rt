@@ -2,8 +2,8 @@ ghost use Rattle.std.specs.Prelude.{◌≡◌, ◌++◌, ◌∷◌, ℕ, None, S
 ghost use Rattle.std.specs.Prelude.{IsErrOf, OnOk};
 ghost use Rattle.std.specs.List.{range_with_len};
 ghost use Rattle.std.specs.Result.{result_err};
-ghost use Rattle.card_book.specs.Book.{GoesBy};
-ghost use Rattle.card_book.specs.History.{HasRoomFor, records_of};
+ghost use Rattle.card_book.specs.Book.{GoesByHistory};
+ghost use Rattle.card_book.specs.History.{HasEntryRoom, records_of};
 ghost use Rattle.card_book.specs.Marks.{HasEachPass, MarkedInTurn};
 ghost use Rattle.card_book.specs.Pass.{AreOfPorts};
 ghost use Rattle.card_book.specs.declared.entry.HistoryEntry.TheVariants.{PhaseEnd, Statement};
@@ -36,13 +36,13 @@ pub struct Book<St: CardStore, N: SectionName> {
 }
 
 impl<St: CardStore, N: SectionName> Model for Book<St, N> {
-    ghost use Rattle.card_book.specs.Book.{BookState, GoesBy};
+    ghost use Rattle.card_book.specs.Book.{BookState, GoesByHistory};
 
     ghost Value = { BookState St };
 
     ghost view = { λ book. record { store = book.store; history = book.pen.history } };
 
-    ghost invariant = { λ book. St.is_open book.store × GoesBy St.holds St.is_used_up N.begun
+    ghost invariant = { λ book. St.is_open book.store × GoesByHistory St.holds St.is_used_up N.begun
         (St.state book.store) book.pen.history };
 }
 
@@ -115,7 +115,7 @@ impl<St: CardStore, N: SectionName> Book<St, N> {
     /// history gets an entry, also where the record is refused, but not for want of memory. It is
     /// refused as Unfit exactly where it doesn't fit what the card holds.
     pub fn commit(&mut self, pass: &mut Pass<N>, entry: &Record) -> Result<Receipt, BookFault>
-        requires { HasRoomFor 1 self.old.history }
+        requires { HasEntryRoom 1 self.old.history }
         ensures history { self.new.history
             ≡ self.old.history ++ entries_made pass.old.port entry.now (result_err result) }
         ensures number { IfOk result (λ receipt.
@@ -137,7 +137,7 @@ impl<St: CardStore, N: SectionName> Book<St, N> {
             (St.state self.old.store) (St.state self.new.store) }
         ensures memory { IsErrOf result (BookFault.Store CommitFault.NoMemory)
             → (self.new ≡ self.old) × PutsProfile entry.now }
-        ensures kept { GoesBy St.holds St.is_used_up N.begun (St.state self.new.store)
+        ensures kept { GoesByHistory St.holds St.is_used_up N.begun (St.state self.new.store)
             self.new.history }
     {
         match commit_if_it_fits(&mut self.store, entry) {
@@ -152,7 +152,7 @@ impl<St: CardStore, N: SectionName> Book<St, N> {
     /// A statement needed the card as a whole: it comes to the history, and the lane of each port
     /// marks it, in ascending order. Nothing else of the book meets it marked in part.
     pub fn share<M: Marks<N>>(&mut self, shared: &Shared, lanes: &mut M)
-        requires room { HasRoomFor 1 self.old.history }
+        requires room { HasEntryRoom 1 self.old.history }
         requires lanes { HasEachPass (St.state self.old.store).held.heads.ports.count
             (M.passes lanes.old) }
         ensures history { self.new.history ≡ self.old.history ++ Statement shared.now ∷ [] }
@@ -170,7 +170,7 @@ impl<St: CardStore, N: SectionName> Book<St, N> {
     /// A phase ended that isn't the last, with the number of each port's next statement. It comes
     /// to the history, and the lane of each port marks it, in ascending order.
     pub fn end_phase<M: Marks<N>>(&mut self, next: &[u32; 8], lanes: &mut M)
-        requires room { HasRoomFor 1 self.old.history }
+        requires room { HasEntryRoom 1 self.old.history }
         requires next { next.now ≡ M.next lanes.old }
         requires lanes { HasEachPass (St.state self.old.store).held.heads.ports.count
             (M.passes lanes.old) }
@@ -189,7 +189,7 @@ impl<St: CardStore, N: SectionName> Book<St, N> {
     /// How many records were committed in the section.
     pub fn commits(&self) -> u64
         ensures count { result ≡ length (records_of self.now.history) }
-        ensures kept { GoesBy St.holds St.is_used_up N.begun (St.state self.now.store)
+        ensures kept { GoesByHistory St.holds St.is_used_up N.begun (St.state self.now.store)
             self.now.history }
     {
         let _ = &self.store;
@@ -217,7 +217,7 @@ impl<St: CardStore, N: SectionName> Book<St, N> {
     pub fn close(self) -> St
         ensures store { result ≡ self.store }
         ensures open { St.is_open result }
-        ensures kept { GoesBy St.holds St.is_used_up N.begun (St.state result) self.history }
+        ensures kept { GoesByHistory St.holds St.is_used_up N.begun (St.state result) self.history }
     {
         let Book { store, pen: _ } = self;
         store

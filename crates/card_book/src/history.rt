@@ -1,6 +1,6 @@
 ghost use Rattle.std.specs.Prelude.{◌≡◌, ◌<◌, ◌+◌, ◌^◌, List, [], ◌∷◌, ◌++◌, length, IfOk};
 ghost use Rattle.std.specs.Prelude.{replicate};
-ghost use Rattle.card_book.specs.History.{IsKept, known, with_entry};
+ghost use Rattle.card_book.specs.History.{KeepsHistory, known, with_entry};
 ghost use Rattle.card_book.specs.declared.entry.HistoryEntry.{HistoryEntry};
 ghost use Rattle.card_book.specs.declared.entry.HistoryEntry.TheVariants.{Commit, FailedCommit};
 ghost use Rattle.card_book.specs.declared.entry.HistoryEntry.TheVariants.{PhaseEnd, Statement};
@@ -21,7 +21,7 @@ pub(crate) struct Known {
 pub(crate) struct Keeping;
 
 impl TableRule<(), Known, ()> for Keeping {
-    ghost holds = { λ _ table. IsKept table };
+    ghost holds = { λ _ table. KeepsHistory table };
 
     ghost first = { λ _. known [] };
 }

@@ -1,5 +1,5 @@
 ghost use Rattle.std.specs.Prelude.{◌≡◌, ◌+◌, ℕ, List, [], IfErr, IsErrOf};
-ghost use Rattle.card_book.specs.History.{HasRoomFor};
+ghost use Rattle.card_book.specs.History.{HasEntryRoom};
 ghost use Rattle.card_book.specs.Keeper.{CommitsFor, HasCause};
 ghost use Rattle.card_book.specs.Pass.{PassState};
 ghost use Rattle.card_book.specs.declared.entry.HistoryEntry.{HistoryEntry};
@@ -39,7 +39,7 @@ pub trait Keeper<N: SectionName> {
 impl<St: CardStore, N: SectionName> Keeper<N> for Book<St, N> {
     ghost known = { λ book pass. book.history };
 
-    ghost has_room = { λ book pass more. HasRoomFor more book.history };
+    ghost has_room = { λ book pass more. HasEntryRoom more book.history };
 
     ghost may_come = { λ port between. between ≡ [] };
 

@@ -1,5 +1,5 @@
 ghost use Rattle.std.specs.Prelude.{◌≡◌, [], ◌∷◌, ◌++◌, length, IfOk, Some};
-ghost use Rattle.card_book.specs.History.{HasRoomFor, records_of, shared_of};
+ghost use Rattle.card_book.specs.History.{HasEntryRoom, records_of, shared_of};
 ghost use Rattle.card_book.specs.declared.entry.HistoryEntry.TheVariants.{Commit};
 ghost use Rattle.card_book.specs.declared.entry.HistoryEntry.TheVariants.{PhaseEnd, Statement};
 ghost use Rattle.card_book.specs.Step.{entries_made};
@@ -21,13 +21,13 @@ pub struct Pen<N: SectionName> {
 }
 
 impl<N: SectionName> Model for Pen<N> {
-    ghost use Rattle.card_book.specs.Pen.{IsCounted, PenState};
+    ghost use Rattle.card_book.specs.Pen.{HasCounts, PenState};
 
     ghost Value = { PenState };
 
     ghost view = { λ pen. record { history = pen.history } };
 
-    ghost invariant = { λ pen. IsCounted pen.history pen.commits pen.shared };
+    ghost invariant = { λ pen. HasCounts pen.history pen.commits pen.shared };
 }
 
 impl<N: SectionName> Pen<N> {
@@ -62,7 +62,7 @@ impl<N: SectionName> Pen<N> {
 
     // A record was committed for a port.
     pub(crate) fn add_commit(&mut self, port: u8, entry: &Record) -> Receipt
-        requires { HasRoomFor 1 self.old.history }
+        requires { HasEntryRoom 1 self.old.history }
         ensures history { self.new.history ≡ self.old.history ++ Commit port entry.now ∷ [] }
         ensures number { result.number ≡ length (records_of self.new.history) }
     {
@@ -75,7 +75,7 @@ impl<N: SectionName> Pen<N> {
 
     // A record was refused. That leaves an entry, but not for want of memory.
     pub(crate) fn add_failure(&mut self, port: u8, entry: &Record, fault: BookFault)
-        requires { HasRoomFor 1 self.old.history }
+        requires { HasEntryRoom 1 self.old.history }
         ensures { self.new.history
             ≡ self.old.history ++ entries_made port entry.now (Some fault) }
     {
@@ -87,7 +87,7 @@ impl<N: SectionName> Pen<N> {
 
     // A statement needed the card as a whole.
     pub(crate) fn add_shared(&mut self, shared: &Shared)
-        requires { HasRoomFor 1 self.old.history }
+        requires { HasEntryRoom 1 self.old.history }
         ensures { self.new.history ≡ self.old.history ++ Statement shared.now ∷ [] }
     {
         self.history.add_shared(shared);
@@ -96,7 +96,7 @@ impl<N: SectionName> Pen<N> {
 
     // A phase ended.
     pub(crate) fn add_phase_end(&mut self, next: &[u32; 8])
-        requires { HasRoomFor 1 self.old.history }
+        requires { HasEntryRoom 1 self.old.history }
         ensures { self.new.history ≡ self.old.history ++ PhaseEnd next.now ∷ [] }
     {
         self.history.add_phase_end(next);

@@ -24,7 +24,7 @@ use Rattle.card_journal.specs.declared.open_fault.OpenFault.TheVariants as open_
 use Rattle.card_journal.proofs.BankLemmas.{reads_none}
 use Rattle.card_journal.proofs.MakeLemmas.{read_images, used_blank, used_read}
 use Rattle.card_journal.proofs.StoreLemmas.{only_throughout}
-use Rattle.card_run.specs.Images.{HasImageCause, IsListed, IsMade, IsPrinted, KeepsCards}
+use Rattle.card_run.specs.Images.{HasImageCause, IsListed, MakingEnds, IsPrinted, KeepsCards}
 use Rattle.card_run.specs.Images.{LeavesNoneOr, OfFlashes, Output, PrintsMade, making_status}
 use Rattle.card_run.specs.Images.{opening_status}
 use Rattle.card_run.specs.declared.status.Status.{Status}
@@ -70,7 +70,7 @@ opened_cause before after out open_fault.NoMemory risen = tt
 
 -- a card that was made is listed
 pub made_by : (card : Durable) (old new : FlashState) (before after : Output) (status : Status) → IfSome old.bytes IsBlank
-    → MayLeaveOnly new (λ content. HoldsCard content card) → IsPrinted (listing_text card) before after status → IsMade card old new before after status
+    → MayLeaveOnly new (λ content. HoldsCard content card) → IsPrinted (listing_text card) before after status → MakingEnds card old new before after status
 made_by card old new before after Done is_blank keeps printed = record { blank = is_blank; keeps = keeps; text = printed }
 made_by card old new before after WriteFault is_blank keeps printed = record { blank = is_blank; keeps = keeps; text = printed }
 made_by card old new before after NoMemory is_blank keeps printed = printed
@@ -84,7 +84,7 @@ made_by card old new before after Worn is_blank keeps printed = absurd printed
 
 -- no card was made
 pub made_refused : (card : Durable) (old new : FlashState) (out : Output) (fault : MakeFault) → IsRefused fault old new
-    → IsMade card old new out out (making_status fault)
+    → MakingEnds card old new out out (making_status fault)
 made_refused card old new out (make_fault.Flash before after) refused = refl
 made_refused card old new out (make_fault.NotBlank place) refused = (refused.0, refused.1, refl)
 made_refused card old new out make_fault.NoMemory refused = refl

@@ -81,19 +81,19 @@ pub record PrintsMade (card : Durable) (old new : FlashState) (before after : Ou
 
 -- How the making of a card ends. A flash with a byte that isn't FF is left as it was, and the place
 -- is that of the first one.
-abbrev pub IsMade : Durable → FlashState → FlashState → Output → Output → Status → Type 0
-IsMade card old new before after status.Done = PrintsMade card old new before after status.Done
-IsMade card old new before after status.WriteFault =
+abbrev pub MakingEnds : Durable → FlashState → FlashState → Output → Output → Status → Type 0
+MakingEnds card old new before after status.Done = PrintsMade card old new before after status.Done
+MakingEnds card old new before after status.WriteFault =
     PrintsMade card old new before after status.WriteFault
-IsMade card old new before after status.NoMemory = after ≡ before
-IsMade card old new before after (status.NotBlank place) =
+MakingEnds card old new before after status.NoMemory = after ≡ before
+MakingEnds card old new before after (status.NotBlank place) =
     IfSome old.bytes (IsFirstUsed 0 place) × OnlyReads old new × (after ≡ before)
-IsMade card old new before after (status.FlashFault from to) = after ≡ before
-IsMade card old new before after status.Usage = ⊥
-IsMade card old new before after (status.Script line kind) = ⊥
-IsMade card old new before after status.ReadFault = ⊥
-IsMade card old new before after status.NotACard = ⊥
-IsMade card old new before after status.Worn = ⊥
+MakingEnds card old new before after (status.FlashFault from to) = after ≡ before
+MakingEnds card old new before after status.Usage = ⊥
+MakingEnds card old new before after (status.Script line kind) = ⊥
+MakingEnds card old new before after status.ReadFault = ⊥
+MakingEnds card old new before after status.NotACard = ⊥
+MakingEnds card old new before after status.Worn = ⊥
 
 -- a fault is reported only where a count rose: that of the image's name, from the one number to the
 -- other, or the sink's
@@ -140,10 +140,10 @@ pub record ListsCard {F : Type 0} (state : F → FlashState) (image : List ℕ)
   pub others : LeavesOtherNames image old new
 
 -- the same of a run of `new`, which makes a card
-pub record MakesCard {F : Type 0} (state : F → FlashState) (card : Durable) (image : List ℕ)
+pub record MakesNewCard {F : Type 0} (state : F → FlashState) (card : Durable) (image : List ℕ)
     (old new : List ℕ → ShelfPlace F) (before after : Output) (status : Status) : Type 0 where
   pub made : OfFlashes state (old image) (new image)
-      (λ flash later. IsMade card flash later before after status)
+      (λ flash later. MakingEnds card flash later before after status)
   pub cause : HasImageCause (old image).faults (new image).faults before.faults after.faults status
   pub images : OfFlashes state (old image) (new image) (LeavesNoneOr card)
   pub back : (new image).is_out ≡ false

@@ -47,8 +47,8 @@ AreOf Listing words = AsksForListing words
 AreOf (New card) words = AsksForNew words card
 
 -- the bytes of each word
-abbrev pub bytes_of : List (String Global) → List (List ℕ)
-bytes_of words = map string_bytes words
+abbrev pub word_bytes : List (String Global) → List (List ℕ)
+word_bytes words = map string_bytes words
 
 -- the image that words of a form name is the second of them
 abbrev pub NamesImage : List (List ℕ) → List ℕ → Type 0

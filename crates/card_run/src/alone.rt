@@ -3,8 +3,8 @@ ghost use Rattle.std.specs.Prelude.{◌≡◌, ◌↔◌, false, ℕ, List};
 ghost use Rattle.card_journal.specs.Made.{made_card};
 ghost use Rattle.port_io.specs.Faults.{NeverFalls};
 ghost use Rattle.card_run.specs.Ends.{RunsDemo, streams};
-ghost use Rattle.card_run.specs.Images.{ListsCard, MakesCard, output};
-ghost use Rattle.card_run.specs.Words.{AreOf, AsksForListing, AsksForNew, NamesImage, bytes_of};
+ghost use Rattle.card_run.specs.Images.{ListsCard, MakesNewCard, output};
+ghost use Rattle.card_run.specs.Words.{AreOf, AsksForListing, AsksForNew, NamesImage, word_bytes};
 ghost use Rattle.card_run.specs.declared.status.Status.TheVariants.{Usage};
 ghost use Rattle.card_run.specs.declared.words.Form.{Form};
 ghost use Rattle.card_run.specs.declared.words.Form.TheVariants.{Demo};
@@ -30,27 +30,27 @@ pub fn run_alone<S: Source, K: Sink, H: Shelf>(
     out: &mut K,
     shelf: &mut H,
 ) -> Status
-    requires { (image : List ℕ) → NamesImage (bytes_of words.now) image
+    requires { (image : List ℕ) → NamesImage (word_bytes words.now) image
         → (H.place shelf.old image).is_out ≡ false }
 
-    ensures usage { (result ≡ Usage) ↔ ((form : Form) → ¬ AreOf form (bytes_of words.now)) }
+    ensures usage { (result ≡ Usage) ↔ ((form : Form) → ¬ AreOf form (word_bytes words.now)) }
     ensures untouched { result ≡ Usage
         → (script.new ≡ script.old) × (out.new ≡ out.old) × (shelf.new ≡ shelf.old) }
 
-    ensures demo { AreOf Demo (bytes_of words.now) → (shelf.new ≡ shelf.old) × RunsDemo
+    ensures demo { AreOf Demo (word_bytes words.now) → (shelf.new ≡ shelf.old) × RunsDemo
         (streams (S.left script.old) (S.faults script.old) (K.written out.old) (K.faults out.old))
         (streams (S.left script.new) (S.faults script.new) (K.written out.new) (K.faults out.new))
         out.old out.new result }
 
-    ensures list { (asked : AsksForListing (bytes_of words.now))
+    ensures list { (asked : AsksForListing (word_bytes words.now))
         → (script.new ≡ script.old) × ListsCard H.F.state asked.image
         (H.place shelf.old) (H.place shelf.new)
         (output (K.written out.old) (K.faults out.old))
         (output (K.written out.new) (K.faults out.new)) result }
 
-    ensures new { (card : NewCard) (asked : AsksForNew (bytes_of words.now) card)
+    ensures new { (card : NewCard) (asked : AsksForNew (word_bytes words.now) card)
         → (script.new ≡ script.old)
-        × MakesCard H.F.state (made_card card.mode card.ports card.eid) asked.image
+        × MakesNewCard H.F.state (made_card card.mode card.ports card.eid) asked.image
         (H.place shelf.old) (H.place shelf.new)
         (output (K.written out.old) (K.faults out.old))
         (output (K.written out.new) (K.faults out.new)) result }

@@ -5,8 +5,8 @@ ghost use Rattle.card_journal.specs.Made.{HasPorts, made_card};
 ghost use Rattle.card_journal.specs.StoreState.{IsUsable};
 ghost use Rattle.card_journal.specs.Store.{store_of};
 ghost use Rattle.port_io.specs.Faults.{NeverFalls};
-ghost use Rattle.card_run.specs.Images.{HasImageCause, IsListed, IsMade, IsPrinted, KeepsCards};
-ghost use Rattle.card_run.specs.Images.{ListsCard, MakesCard};
+ghost use Rattle.card_run.specs.Images.{HasImageCause, IsListed, MakingEnds, IsPrinted, KeepsCards};
+ghost use Rattle.card_run.specs.Images.{ListsCard, MakesNewCard};
 ghost use Rattle.card_run.specs.Images.{LeavesNoneOr, making_status, opening_status, output};
 ghost use Rattle.card_run.specs.declared.status.Status.TheVariants.{Done};
 
@@ -103,7 +103,7 @@ fn make_on_flash<F: Flash, K: Sink>(
     out: &mut K,
 ) -> (Status, F)
     requires { HasPorts card.mode card.ports }
-    ensures made { IsMade (made_card card.mode card.ports card.eid) (F.state flash)
+    ensures made { MakingEnds (made_card card.mode card.ports card.eid) (F.state flash)
         (F.state result.1) (output (K.written out.old) (K.faults out.old))
         (output (K.written out.new) (K.faults out.new)) result.0 }
     ensures cause { HasImageCause (F.state flash).faults (F.state result.1).faults
@@ -155,7 +155,7 @@ pub fn new<K: Sink, H: Shelf>(
 ) -> Status
     requires there { (H.place shelf.old image.now).is_out ≡ false }
     requires ports { HasPorts card.mode card.ports }
-    ensures makes { MakesCard H.F.state (made_card card.mode card.ports card.eid) image.now
+    ensures makes { MakesNewCard H.F.state (made_card card.mode card.ports card.eid) image.now
         (H.place shelf.old) (H.place shelf.new)
         (output (K.written out.old) (K.faults out.old))
         (output (K.written out.new) (K.faults out.new)) result }

@@ -5,7 +5,7 @@ ghost use Rattle.hex.specs.Hex.{decode_of};
 ghost use Rattle.card_core.specs.Listing.{mode_text};
 ghost use Rattle.card_journal.specs.Made.{HasPorts};
 ghost use Rattle.card_run.specs.Words.{AreOf, AreSpelled, AsksForNew};
-ghost use Rattle.card_run.specs.Words.{IsImageName, bytes_of};
+ghost use Rattle.card_run.specs.Words.{IsImageName, word_bytes};
 ghost use Rattle.port_table.specs.declared.port_mode.PortMode.{PortMode};
 ghost use Rattle.card_run.specs.declared.words.Form.{Form};
 ghost use Rattle.card_run.specs.declared.words.NewCard.{NewCard};
@@ -100,8 +100,8 @@ fn is(word: &String, text: &str) -> bool
 }
 
 fn read_new(words: &[String]) -> Option<NewCard>
-    ensures { MatchOption result ((card : NewCard) → ¬ AsksForNew (bytes_of words.now) card)
-        (AsksForNew (bytes_of words.now)) }
+    ensures { MatchOption result ((card : NewCard) → ¬ AsksForNew (word_bytes words.now) card)
+        (AsksForNew (word_bytes words.now)) }
 {
     match words {
         [
@@ -124,8 +124,8 @@ fn read_new(words: &[String]) -> Option<NewCard>
 
 /// What the words ask for, if they are of a form.
 pub fn read_form(words: &[String]) -> Option<Form>
-    ensures { MatchOption result ((form : Form) → ¬ AreOf form (bytes_of words.now))
-        (λ form. AreOf form (bytes_of words.now)) }
+    ensures { MatchOption result ((form : Form) → ¬ AreOf form (word_bytes words.now))
+        (λ form. AreOf form (word_bytes words.now)) }
 {
     match words {
         [word] if is(word, "demo") => Some(Form::Demo),
@@ -137,7 +137,7 @@ pub fn read_form(words: &[String]) -> Option<Form>
 /// The second word, which names the image where the words are of a form that has one.
 pub fn image_of(words: &[String]) -> &str
     requires { 2 ≤ length words.now }
-    ensures { result.now ≡ slice_index_or (bytes_of words.now) 1 [] }
+    ensures { result.now ≡ slice_index_or (word_bytes words.now) 1 [] }
 {
     &words[1]
 }

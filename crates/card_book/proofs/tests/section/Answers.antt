@@ -1,13 +1,13 @@
 use Rattle.std.proofs.Common.{◌≡◌, ℕ, ◌+◌, List, [], ◌∷◌, ◌++◌, length, refl, sym, ap, ◌∙◌}
 use Rattle.std.proofs.Common.{arith, length-append}
-use Rattle.card_book.specs.History.{HasRoomFor}
+use Rattle.card_book.specs.History.{HasEntryRoom}
 use Rattle.card_book.specs.Marks.{HasEachPass}
 use Rattle.card_book.specs.Pass.{PassState}
 use Rattle.card_book.specs.declared.entry.HistoryEntry.{HistoryEntry}
 use Rattle.card_book.proofs.tests.section.Goals as goal
 
 room_next : (history new : List HistoryEntry) (entry : HistoryEntry) (more : ℕ)
-    → HasRoomFor (more + 1) history → new ≡ history ++ entry ∷ [] → HasRoomFor more new
+    → HasEntryRoom (more + 1) history → new ≡ history ++ entry ∷ [] → HasEntryRoom more new
 room_next history new entry more room is =
     omega (arith, ap length is, length-append history (entry ∷ []), room)
 

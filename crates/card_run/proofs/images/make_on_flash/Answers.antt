@@ -4,7 +4,7 @@ use Rattle.record_codec.specs.declared.durable.Durable.{Durable}
 use Rattle.card_core.specs.Listing.{listing_text}
 use Rattle.card_journal.specs.Image.{HoldsCard}
 use Rattle.card_journal.specs.Made.{HoldsNoneOr, made_card}
-use Rattle.card_run.specs.Images.{HasImageCause, IsMade, IsPrinted, output}
+use Rattle.card_run.specs.Images.{HasImageCause, MakingEnds, IsPrinted, output}
 use Rattle.card_run.specs.declared.status.Status.{Status}
 use Rattle.card_run.proofs.ImagesLemmas.{keeps_card, leaves_made, made_by, made_cause, made_refused}
 use Rattle.card_run.proofs.images.make_on_flash.Goals as goal
@@ -30,7 +30,7 @@ returns-in-Ok-clause-images g c =
 
 pub returns-in-Err-clause-made : goal.returns-in-Err-clause-made
 returns-in-Err-clause-made g c =
-    subst (λ (status : Status). IsMade (made_card c.args.card.mode c.args.card.ports c.args.card.eid) (g.F.Flash.state c.args.flash) (g.F.Flash.state c.in-Err.back.value) (output (g.K.Sink.written c.args.out.now) (g.K.Sink.faults c.args.out.now))
+    subst (λ (status : Status). MakingEnds (made_card c.args.card.mode c.args.card.ports c.args.card.eid) (g.F.Flash.state c.args.flash) (g.F.Flash.state c.in-Err.back.value) (output (g.K.Sink.written c.args.out.now) (g.K.Sink.faults c.args.out.now))
     (output (g.K.Sink.written c.args.out.now) (g.K.Sink.faults c.args.out.now)) status) (sym c.not_made.ensures)
     (made_refused (made_card c.args.card.mode c.args.card.ports c.args.card.eid) (g.F.Flash.state c.args.flash) (g.F.Flash.state c.in-Err.back.value) (output (g.K.Sink.written c.args.out.now) (g.K.Sink.faults c.args.out.now))
     c.in-Err.back.fault c.in-Err.ensures.refused)

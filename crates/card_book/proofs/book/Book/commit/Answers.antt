@@ -1,5 +1,5 @@
 use Rattle.std.proofs.Common.{Some, None, sym, subst}
-use Rattle.card_book.specs.Book.{GoesBy}
+use Rattle.card_book.specs.Book.{GoesByHistory}
 use Rattle.card_book.proofs.StepLemmas.{goes_on_by}
 use Rattle.card_book.proofs.book.Book.commit.Goals as goal
 
@@ -9,7 +9,7 @@ invariant_of-self g c =
     let new = c.commit_if_it_fits.new.store in
     let done = c.commit_if_it_fits.ensures in (
       done.open,
-      subst (GoesBy store.holds store.is_used_up g.N.SectionName.begun (store.state new))
+      subst (GoesByHistory store.holds store.is_used_up g.N.SectionName.begun (store.state new))
           (sym c.add_commit.ensures.history)
           (goes_on_by store.holds store.is_used_up g.N.SectionName.begun
           (store.state c.self.inside.store) (store.state new) c.self.inside.pen.history
@@ -26,7 +26,7 @@ invariant_of-self-in-Err g c =
     let new = c.commit_if_it_fits.new.store in
     let done = c.commit_if_it_fits.ensures in (
       done.open,
-      subst (GoesBy store.holds store.is_used_up g.N.SectionName.begun (store.state new))
+      subst (GoesByHistory store.holds store.is_used_up g.N.SectionName.begun (store.state new))
           (sym c.add_failure.ensures)
           (goes_on_by store.holds store.is_used_up g.N.SectionName.begun
           (store.state c.self.inside.store) (store.state new) c.self.inside.pen.history

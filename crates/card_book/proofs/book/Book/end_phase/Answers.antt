@@ -1,5 +1,5 @@
 use Rattle.std.proofs.Common.{[], ◌∷◌, refl, sym, ap, ◌∙◌, subst}
-use Rattle.card_book.specs.Book.{GoesBy}
+use Rattle.card_book.specs.Book.{GoesByHistory}
 use Rattle.card_book.specs.declared.entry.HistoryEntry.TheVariants.{PhaseEnd}
 use Rattle.card_book.proofs.StepLemmas.{goes_by_more}
 use Rattle.card_book.proofs.book.Book.end_phase.Goals as goal
@@ -11,7 +11,7 @@ invariant_of-self g c =
     let more = PhaseEnd c.args.next.now ∷ [] in
     let begun = g.N.SectionName.begun in (
       c.self.invariant.0,
-      subst (GoesBy store.holds store.is_used_up begun now)
+      subst (GoesByHistory store.holds store.is_used_up begun now)
           (sym (ap (λ pen. pen.history) c.mark_each.ensures.pen ∙ c.add_phase_end.ensures))
           (goes_by_more store.holds store.is_used_up begun now c.self.inside.pen.history more
           (record { records = refl; rises = refl; worn = refl }) c.self.invariant.1),
