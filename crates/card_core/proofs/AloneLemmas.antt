@@ -16,10 +16,11 @@ use Rattle.record_codec.specs.IsDurable.{IsDurable}
 use Rattle.record_codec.specs.declared.durable.Durable.{Durable}
 use Rattle.card_core.proofs.KeptLemmas.{held_below}
 use Rattle.card_core.proofs.MovedLemmas.{stands}
+use Rattle.card_core.proofs.StepShareLemmas.{Shares, SharesAt, SharesBytes, SharesOwn, lines_given}
 use Rattle.card_core.specs.Alone.{IsCardOf, RunsAlone, answer_list}
 use Rattle.card_core.specs.Port.{profile_on}
-use Rattle.card_core.specs.Share.{IsBytesShare, IsOwnShare, IsShare, IsShareAt, Share}
-use Rattle.card_core.specs.Share.{given_by_lines, given_there, joined_share, no_share}
+use Rattle.card_core.specs.Share.{Share}
+use Rattle.card_core.specs.Share.{given_there, joined_share, no_share}
 use Rattle.card_core.specs.Stepped.{Stepped}
 use Rattle.card_core.specs.World.{WorldState, card_in, card_on, port_in}
 
@@ -100,15 +101,15 @@ module _ (profile : ℕ) (content : Content) where
   -- a step gives the profile a share, and its card alone comes by it to what is the profile's then
   abbrev pub Goes : Stepped → Card → Type 0
   Goes step card =
-      (share : Share) × (after : Card) × IsShare profile step share
+      (share : Share) × (after : Card) × Shares profile step share
       × RunsAlone card share.given share.answers after × IsNow step.made.state after
 
   pub goes : (step : Stepped) (card after : Card) (own : Share) (lines : List CardEvent)
-      → IsOwnShare profile step step.failed own → given_by_lines profile step ≡ lines
+      → SharesOwn profile step step.failed own → lines_given profile step ≡ lines
       → RunsAlone card (own.given ++ lines) (own.answers ++ []) after
       → IsNow step.made.state after → Goes step card
   goes step card after own lines is given runs now = (
-    joined_share own (record { given = given_by_lines profile step; answers = [] }),
+    joined_share own (record { given = lines_given profile step; answers = [] }),
     after,
     (own, is, refl),
     subst (λ (its : List CardEvent). RunsAlone card (own.given ++ its) (own.answers ++ []) after)
@@ -117,22 +118,22 @@ module _ (profile : ℕ) (content : Content) where
   )
 
   -- nothing comes to the profile
-  pub goes_quiet : (step : Stepped) (card : Card) → IsOwnShare profile step step.failed no_share
-      → given_by_lines profile step ≡ [] → IsNow step.made.state card → Goes step card
+  pub goes_quiet : (step : Stepped) (card : Card) → SharesOwn profile step step.failed no_share
+      → lines_given profile step ≡ [] → IsNow step.made.state card → Goes step card
   goes_quiet step card is none now = goes step card card no_share [] is none (refl, refl) now
 
   -- a line tells of one event
   pub goes_told : (step : Stepped) (card after : Card) (event : CardEvent)
-      → IsOwnShare profile step step.failed no_share
-      → given_by_lines profile step ≡ event ∷ [] → Steps card event (silent after)
+      → SharesOwn profile step step.failed no_share
+      → lines_given profile step ≡ event ∷ [] → Steps card event (silent after)
       → IsNow step.made.state after → Goes step card
   goes_told step card after event is told steps now =
       goes step card after no_share (event ∷ []) is told (runs_silent card after event steps) now
 
   -- the statement is such an event
   pub goes_given : (step : Stepped) (card after : Card) (event : CardEvent)
-      → IsOwnShare profile step step.failed (record { given = event ∷ []; answers = [] })
-      → given_by_lines profile step ≡ [] → Steps card event (silent after)
+      → SharesOwn profile step step.failed (record { given = event ∷ []; answers = [] })
+      → lines_given profile step ≡ [] → Steps card event (silent after)
       → IsNow step.made.state after → Goes step card
   goes_given step card after event is none steps now =
       goes step card after (record { given = event ∷ []; answers = [] }) [] is none
@@ -141,9 +142,9 @@ module _ (profile : ℕ) (content : Content) where
   -- or it is a command that the profile's card answers
   pub goes_answered : (step : Stepped) (card : Card) (event : CardEvent) (outcome : Outcome)
       (answer : Answer)
-      → IsOwnShare profile step step.failed
+      → SharesOwn profile step step.failed
       (record { given = event ∷ []; answers = answer ∷ [] })
-      → given_by_lines profile step ≡ [] → Steps card event outcome
+      → lines_given profile step ≡ [] → Steps card event outcome
       → outcome.answer ≡ Some answer → IsNow step.made.state outcome.card → Goes step card
   goes_answered step card event outcome answer is none steps answered now =
       goes step card outcome.card (record { given = event ∷ []; answers = answer ∷ [] }) [] is none
@@ -151,19 +152,19 @@ module _ (profile : ℕ) (content : Content) where
 
   -- what comes to a port is of the profile that stands there
   pub bytes_here : (step : Stepped) (port : ℕ) (bytes : List ℕ) (share : Share)
-      → profile_on step.before.durable port ≡ Some profile → IsBytesShare step port bytes share
-      → IsShareAt profile (profile_on step.before.durable port) step port bytes share
+      → profile_on step.before.durable port ≡ Some profile → SharesBytes step port bytes share
+      → SharesAt profile (profile_on step.before.durable port) step port bytes share
   bytes_here step port bytes share on is =
-      subst (λ (its : Option ℕ). IsShareAt profile its step port bytes share) (sym on)
+      subst (λ (its : Option ℕ). SharesAt profile its step port bytes share) (sym on)
       (inl (refl, is))
 
   pub bytes_not_here : (step : Stepped) (port : ℕ) (bytes : List ℕ)
       → profile_on step.before.durable port ≢ Some profile
-      → IsShareAt profile (profile_on step.before.durable port) step port bytes no_share
+      → SharesAt profile (profile_on step.before.durable port) step port bytes no_share
   bytes_not_here step port bytes = by (profile_on step.before.durable port)
     where
       by : (on : Option ℕ) → on ≢ Some profile
-          → IsShareAt profile on step port bytes no_share
+          → SharesAt profile on step port bytes no_share
       by None apart = refl
       by (Some other) apart = inr (λ same. apart (ap (λ (n : ℕ). Some n) same), refl)
 

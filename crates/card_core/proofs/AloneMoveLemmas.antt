@@ -45,6 +45,7 @@ use Rattle.card_core.proofs.PortLemmas.{found_held}
 use Rattle.card_core.proofs.SeenLemmas.{each_at, seen_alike}
 use Rattle.card_core.proofs.StoodLemmas.{comes_alone, comes_not, it_comes, it_leaves, leaves_none}
 use Rattle.card_core.proofs.StoodLemmas.{none_comes, none_leaves, not_unmoved, then_nowhere}
+use Rattle.card_core.proofs.StepShareLemmas.{SharesOwn, lines_given, share_of_command}
 use Rattle.card_core.specs.Alone.{IsOnNoPort}
 use Rattle.card_core.specs.Desk.{desk_outcome}
 use Rattle.card_core.specs.DeskOutcome.{DeskOutcome}
@@ -53,7 +54,7 @@ use Rattle.card_core.specs.IsdrCommand.{port_moved, telling_of}
 use Rattle.card_core.specs.Port.{content_on, profile_on}
 use Rattle.card_core.specs.PortState.{PortState, fresh_port}
 use Rattle.card_core.specs.Recorded.{recorded}
-use Rattle.card_core.specs.Share.{IsOwnShare, answers_in, command_share, given_by_lines}
+use Rattle.card_core.specs.Share.{answers_in}
 use Rattle.card_core.specs.Share.{given_by_lsi, no_share}
 use Rattle.card_core.specs.Sound.{IsSoundState}
 use Rattle.card_core.specs.Stepped.{Stepped}
@@ -174,7 +175,7 @@ module _ (profile : ℕ) (content : Content) (state : WorldState) (sound : IsSou
   telling = telling_of state came c.channel
 
   -- its answer is no profile's
-  share_is : no_share ≡ command_share step came bytes c
+  share_is : no_share ≡ share_of_command step came bytes c
   share_is =
       ap (λ (its : Bool). record {
         given = cond its (given_by_lsi came (lsi_of c state.durable.heads.ports.count)) [];
@@ -186,7 +187,7 @@ module _ (profile : ℕ) (content : Content) (state : WorldState) (sound : IsSou
         answers = [];
       }) (record { given = Command bytes ∷ []; answers = answers_in made.entries })) (sym common)
 
-  no_own : IsOwnShare profile step false no_share
+  no_own : SharesOwn profile step false no_share
   no_own = elim (here_or_not profile (profile_on state.durable came)) [
     | inl on ↦ bytes_here profile content step came bytes no_share on (inl (c, spelled, share_is))
     | inr apart ↦ bytes_not_here profile content step came bytes apart
@@ -205,7 +206,7 @@ module _ (profile : ℕ) (content : Content) (state : WorldState) (sound : IsSou
   lines_are : (port : ℕ)
       → ((move : Move) → IsMoved before.heads.ports after.heads.ports move → move.port ≢ port
       → Gives move ≡ [])
-      → given_by_lines profile step ≡ given_by Gives (move_at moves port)
+      → lines_given profile step ≡ given_by Gives (move_at moves port)
   lines_are port none =
       lines_give profile state telling port moves carried.moves.once
       (each_of (IsMoved before.heads.ports after.heads.ports)
@@ -254,7 +255,7 @@ module _ (profile : ℕ) (content : Content) (state : WorldState) (sound : IsSou
     is_there : card ≡ card_in state port
     is_there = card_here profile content state sound card now port on
 
-    others_give_nothing : given_by_lines profile step ≡ given_by Gives (move_at moves port)
+    others_give_nothing : lines_given profile step ≡ given_by Gives (move_at moves port)
     others_give_nothing =
         lines_are port (λ move moved apart. nothing_given move
         (none_leaves before sound.are outcome.entry moves carried profile port stood move moved

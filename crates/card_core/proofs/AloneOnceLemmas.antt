@@ -8,59 +8,70 @@ use Rattle.profile_card.proofs.RunLemmas.{Steps-once}
 use Rattle.profile_card.specs.Card.{Card}
 use Rattle.profile_card.specs.Step.{Event as CardEvent, Outcome}
 use Rattle.card_core.specs.Alone.{IsAnsweredAlone, RunsAlone, StartsAlone, answer_list}
-use Rattle.card_core.specs.Port.{profile_on}
-use Rattle.card_core.specs.Share.{AreShares, IsBytesShare, IsEventShare, IsOwnShare, IsShareAt}
-use Rattle.card_core.specs.Share.{Share, command_share, given_by_lines, joined_share}
+use Rattle.card_core.specs.Fed.{IsFed, seen_by}
+use Rattle.card_core.specs.Share.{AreShares, IsBytesShare, IsEventShare, IsOwnShare, IsShare}
+use Rattle.card_core.specs.Share.{IsShareAt, Seen, Share, command_share, given_by_lines}
+use Rattle.card_core.specs.Share.{joined_share, seen_in}
 use Rattle.card_core.specs.Stepped.{Stepped}
+use Rattle.card_core.specs.Told.{Told, told_of}
 use Rattle.card_core.specs.World.{WorldState}
+use Rattle.card_core.specs.declared.entry.Entry.{Entry}
 use Rattle.card_core.specs.declared.event.Event.{Event}
 use Rattle.card_core.specs.declared.event.Event.TheVariants as events
 
--- a run gives a profile one share
-IsBytesShare-once : (step : Stepped) (port : ℕ) (bytes : List ℕ) (one other : Share)
-    → IsBytesShare step port bytes one → IsBytesShare step port bytes other → one ≡ other
-IsBytesShare-once step port bytes one other (inl is) (inl its) =
-    is.2 ∙ ap (command_share step port bytes) (Spells-once bytes is.0 its.0 is.1 its.1)
-    ∙ sym its.2
-IsBytesShare-once step port bytes one other (inl is) (inr none) = absurd (none.0 is.0 is.1)
-IsBytesShare-once step port bytes one other (inr none) (inl its) = absurd (none.0 its.0 its.1)
-IsBytesShare-once step port bytes one other (inr none) (inr its) = none.1 ∙ sym its.1
+-- what is told gives a profile one share
+module _ (seen : Seen) (entries : List Entry) where
+  bytes_once : (port : ℕ) (bytes : List ℕ) (one other : Share)
+      → IsBytesShare seen entries port bytes one → IsBytesShare seen entries port bytes other
+      → one ≡ other
+  bytes_once port bytes one other (inl is) (inl its) =
+      is.2 ∙ ap (command_share seen entries port bytes) (Spells-once bytes is.0 its.0 is.1 its.1)
+      ∙ sym its.2
+  bytes_once port bytes one other (inl is) (inr none) = absurd (none.0 is.0 is.1)
+  bytes_once port bytes one other (inr none) (inl its) = absurd (none.0 its.0 its.1)
+  bytes_once port bytes one other (inr none) (inr its) = none.1 ∙ sym its.1
 
-IsShareAt-once : (profile : ℕ) (on : Option ℕ) (step : Stepped) (port : ℕ) (bytes : List ℕ)
-    (one other : Share) → IsShareAt profile on step port bytes one
-    → IsShareAt profile on step port bytes other → one ≡ other
-IsShareAt-once profile None step port bytes one other is its = is ∙ sym its
-IsShareAt-once profile (Some there) step port bytes one other (inl is) (inl its) =
-    IsBytesShare-once step port bytes one other is.1 its.1
-IsShareAt-once profile (Some there) step port bytes one other (inl is) (inr its) =
-    absurd (its.0 is.0)
-IsShareAt-once profile (Some there) step port bytes one other (inr is) (inl its) =
-    absurd (is.0 its.0)
-IsShareAt-once profile (Some there) step port bytes one other (inr is) (inr its) =
-    is.1 ∙ sym its.1
+  at_once : (profile : ℕ) (on : Option ℕ) (port : ℕ) (bytes : List ℕ) (one other : Share)
+      → IsShareAt profile on seen entries port bytes one
+      → IsShareAt profile on seen entries port bytes other → one ≡ other
+  at_once profile None port bytes one other is its = is ∙ sym its
+  at_once profile (Some there) port bytes one other (inl is) (inl its) =
+      bytes_once port bytes one other is.1 its.1
+  at_once profile (Some there) port bytes one other (inl is) (inr its) = absurd (its.0 is.0)
+  at_once profile (Some there) port bytes one other (inr is) (inl its) = absurd (is.0 its.0)
+  at_once profile (Some there) port bytes one other (inr is) (inr its) = is.1 ∙ sym its.1
 
-IsEventShare-once : (profile : ℕ) (step : Stepped) (event : Event) (one other : Share)
-    → IsEventShare profile step event one → IsEventShare profile step event other → one ≡ other
-IsEventShare-once profile step (events.Apdu port bytes) one other is its =
-    IsShareAt-once profile (profile_on step.before.durable port) step port bytes one other is its
-IsEventShare-once profile step (events.Reset port) one other is its = is ∙ sym its
-IsEventShare-once profile step (events.Load port its_step) one other is its = is ∙ sym its
-IsEventShare-once profile step events.Power one other is its = is ∙ sym its
+  event_once : (profile : ℕ) (event : Event) (one other : Share)
+      → IsEventShare profile seen entries event one
+      → IsEventShare profile seen entries event other → one ≡ other
+  event_once profile (events.Apdu port bytes) one other is its =
+      at_once profile (seen.on port) port bytes one other is its
+  event_once profile (events.Reset port) one other is its = is ∙ sym its
+  event_once profile (events.Load port its_step) one other is its = is ∙ sym its
+  event_once profile events.Power one other is its = is ∙ sym its
 
-IsOwnShare-once : (profile : ℕ) (step : Stepped) (failed : Bool) (one other : Share)
-    → IsOwnShare profile step failed one → IsOwnShare profile step failed other → one ≡ other
-IsOwnShare-once profile step false one other is its =
-    IsEventShare-once profile step step.event one other is its
-IsOwnShare-once profile step true one other is its = is ∙ sym its
+own_once : (profile : ℕ) (seen : Seen) (told : Told) (failed : Bool) (one other : Share)
+    → IsOwnShare profile seen told failed one → IsOwnShare profile seen told failed other
+    → one ≡ other
+own_once profile seen told false one other is its =
+    event_once seen told.entries profile told.event one other is its
+own_once profile seen told true one other is its = is ∙ sym its
 
+share_once : (profile : ℕ) (seen : Seen) (told : Told) (one other : Share)
+    → IsShare profile seen told one → IsShare profile seen told other → one ≡ other
+share_once profile seen told one other is its =
+    let lines : Share =
+    record { given = given_by_lines profile seen told.entries; answers = [] } in
+    is.2 ∙ ap (λ (share : Share). joined_share share lines)
+    (own_once profile seen told told.failed is.0 its.0 is.1 its.1) ∙ sym its.2
+
+-- so does a run
 pub AreShares-once : (profile : ℕ) (taken : List Stepped) (one other : Share)
     → AreShares profile taken one → AreShares profile taken other → one ≡ other
 AreShares-once profile [] one other is its = is ∙ sym its
 AreShares-once profile (step ∷ taken) one other is its =
-    let own = IsOwnShare-once profile step step.failed is.2.0 its.2.0 is.2.1 its.2.1 in
-    let lines : Share = record { given = given_by_lines profile step; answers = [] } in
     let first : is.0 ≡ its.0 =
-    is.2.2 ∙ ap (λ (share : Share). joined_share share lines) own ∙ sym its.2.2 in
+    share_once profile (seen_in step.before) (told_of step) is.0 its.0 is.2 its.2 in
     let rest : is.1 ≡ its.1 = AreShares-once profile taken is.1 its.1 is.3 its.3 in
     is.4 ∙ ap (λ (share : Share). joined_share share is.1) first
     ∙ ap (joined_share its.0) rest ∙ sym its.4
@@ -81,6 +92,22 @@ RunsAlone-once card (event ∷ given) one other last another runs its =
           ∙ sym its.4,
       rest.1,
     )
+
+-- and so does what is told of a run
+pub IsFed-once : (profile ports : ℕ) (card : Card) (told : List Told) (one other : Share)
+    → IsFed profile ports card told one → IsFed profile ports card told other → one ≡ other
+IsFed-once profile ports card [] one other is its = is ∙ sym its
+IsFed-once profile ports card (first ∷ told) one other is its =
+    let same : is.0 ≡ its.0 =
+    share_once profile (seen_by profile ports card) first is.0 its.0 is.4 its.4 in
+    let next : is.3 ≡ its.3 =
+    (RunsAlone-once card its.0.given is.2 its.2 is.3 its.3
+    (subst (λ (share : Share). RunsAlone card share.given is.2 is.3) same is.5) its.5).1 in
+    let rest : is.1 ≡ its.1 =
+    IsFed-once profile ports its.3 told is.1 its.1
+    (subst (λ (now : Card). IsFed profile ports now told is.1) next is.6) its.6 in
+    is.7 ∙ ap (λ (share : Share). joined_share share is.1) same
+    ∙ ap (joined_share its.0) rest ∙ sym its.7
 
 -- so the same things given to the same card are answered alike in any two runs
 module _ (profile : ℕ) (start other : WorldState) (taken others : List Stepped)

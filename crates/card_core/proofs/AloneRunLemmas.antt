@@ -1,6 +1,6 @@
 -- A run of a card beside the card of a profile alone.
 use Rattle.std.proofs.Common.{◌≡◌, ◌≤◌, ◌<◌, ◌+◌, ℕ, Bool, true, false, cond, nat_eq, List, [], ◌∷◌}
-use Rattle.std.proofs.Common.{length, Option, Some, None, Result, Ok, Err, refl, sym, ◌∙◌, ap}
+use Rattle.std.proofs.Common.{length, map, Option, Some, None, Result, Ok, Err, refl, sym, ◌∙◌, ap}
 use Rattle.std.proofs.Common.{subst, arith, inl, inr, length-set}
 use Rattle.std.proofs.Common.{eqb-true}
 use Rattle.std.specs.List.{AllByRecursion}
@@ -22,9 +22,11 @@ use Rattle.record_codec.specs.declared.profile.ProfileHead.{ProfileHead}
 use Rattle.card_core.proofs.AloneLemmas.{IsNow, runs_more}
 use Rattle.card_core.proofs.AloneLoadLemmas.{IsEnded, load_ends, load_goes}
 use Rattle.card_core.proofs.AloneMoveLemmas.{isdr_goes, next_stays}
+use Rattle.card_core.proofs.AloneOnceLemmas.{AreShares-once}
 use Rattle.card_core.proofs.AloneStepLemmas.{GoesBy, fails_goes, lsi_goes, own_goes, power_goes}
 use Rattle.card_core.proofs.AloneStepLemmas.{reset_goes, unspelled_goes}
 use Rattle.card_core.proofs.CarriedLemmas.{desk_carried}
+use Rattle.card_core.proofs.FedLemmas.{share_alike, shows_same}
 use Rattle.card_core.proofs.SoundLemmas.{happens_sound}
 use Rattle.card_core.proofs.SoundLoadLemmas.{happens_whole}
 use Rattle.card_core.proofs.StayLemmas.{heads_where}
@@ -32,16 +34,18 @@ use Rattle.card_core.proofs.WithinLemmas.{length_each, length_fresh}
 use Rattle.card_core.specs.Alone.{InstallsWith, IsAnsweredAlone, RunsAlone, StartsAlone}
 use Rattle.card_core.specs.Desk.{desk_outcome}
 use Rattle.card_core.specs.Failed.{FailsLoadWith}
+use Rattle.card_core.specs.Fed.{IsFed, IsToldAlone, seen_by}
 use Rattle.card_core.specs.IsdrCommand.{busy_of, isdr_made}
 use Rattle.card_core.specs.ManageLsi.{counted_at, lsi_asked_for, lsi_made}
 use Rattle.card_core.specs.OwnCommand.{own_made}
 use Rattle.card_core.specs.PortState.{fresh_port}
 use Rattle.card_core.specs.Run.{IsOnCard}
 use Rattle.card_core.specs.Share.{AreShares}
-use Rattle.card_core.specs.Share.{Share, joined_share, no_share}
+use Rattle.card_core.specs.Share.{Share, joined_share, no_share, seen_in}
 use Rattle.card_core.specs.Sound.{BringsBytes, HasSoundLoads, IsSoundState}
 use Rattle.card_core.specs.Statements.{AnswersBytes, MakesLoadStep, command_made}
 use Rattle.card_core.specs.Stepped.{AreSteps, Happens, Stepped}
+use Rattle.card_core.specs.Told.{told_of}
 use Rattle.card_core.specs.World.{Made, WorldState, card_in, port_in}
 use Rattle.card_core.specs.declared.event.Event.{Event}
 use Rattle.card_core.specs.declared.event.Event.TheVariants as events
@@ -152,7 +156,7 @@ module _ (state : WorldState) (sound : IsSoundState state) where
         next = omega arith;
       })
   happens_keeps true (events.Apdu port bytes) made on is =
-      subst Keeps (sym is.4) (record { places = length-set state.ports port _; next = omega arith })
+      subst Keeps (sym is.3) (record { places = length-set state.ports port _; next = omega arith })
   happens_keeps true (events.Reset port) made on is = absurd is
   happens_keeps true (events.Load port step) made on is = failed_load_keeps port step made is
   happens_keeps true events.Power made on is = absurd is
@@ -221,19 +225,21 @@ module _ (profile : ℕ) (content : Content) (state : WorldState) (sound : IsSou
 
 -- what a run gives a profile, and what its card alone comes to
 module _ (profile : ℕ) (content : Content) where
-  abbrev pub RunGoes : List Stepped → Card → WorldState → Type 0
-  RunGoes steps card after =
+  abbrev pub RunGoes : ℕ → List Stepped → Card → WorldState → Type 0
+  RunGoes ports steps card after =
       (share : Share) × (last : Card) × AreShares profile steps share
       × RunsAlone card share.given share.answers last × IsNow profile content after last
+      × IsFed profile ports card (map told_of steps) share
 
   abbrev pub AreDurable : List Stepped → Type 0
   AreDurable steps = AllByRecursion (λ step. IsDurable step.made.state.durable) steps
 
-  ends : (start after : WorldState) (card : Card) (taken : List Stepped) → taken ≡ []
-      → after ≡ start → IsNow profile content start card → RunGoes taken card after
-  ends start after card taken none same now =
-      subst (λ (its : List Stepped). RunGoes its card after) (sym none)
-      (subst (RunGoes [] card) (sym same) (no_share, card, refl, (refl, refl), now))
+  ends : (ports : ℕ) (start after : WorldState) (card : Card) (taken : List Stepped)
+      → taken ≡ [] → after ≡ start → IsNow profile content start card
+      → RunGoes ports taken card after
+  ends ports start after card taken none same now =
+      subst (λ (its : List Stepped). RunGoes ports its card after) (sym none)
+      (subst (RunGoes ports [] card) (sym same) (no_share, card, refl, (refl, refl), now, refl))
 
   -- one more step before the others
   module _ (event : Event) (came : List Event) (start : WorldState) (taken : List Stepped)
@@ -267,10 +273,11 @@ module _ (profile : ℕ) (content : Content) where
     keeps : Keeps start sound done
     keeps = happens_keeps start sound are.0 event done on.0 are.3
 
+    same_ports : start.durable.heads.ports.count ≡ done.state.durable.heads.ports.count
+    same_ports = sym sound.count ∙ sym keeps.places ∙ sound_now.count
+
     on_now : AllByRecursion (IsOnCard done.state.durable.heads.ports.count) came
-    on_now =
-        subst (λ (count : ℕ). AllByRecursion (IsOnCard count) came)
-        (sym sound.count ∙ sym keeps.places ∙ sound_now.count) on.1
+    on_now = subst (λ (count : ℕ). AllByRecursion (IsOnCard count) came) same_ports on.1
 
     rest_installs : done.state.durable.heads.next_number ≤ profile
         → AllByRecursion (InstallsWith profile content) are.2
@@ -279,15 +286,31 @@ module _ (profile : ℕ) (content : Content) where
         keeps.next in
         (installs_now (omega (arith, more, low))).1
 
-    joined : RunGoes are.2 first.1 after → RunGoes taken card after
+    joined : RunGoes done.state.durable.heads.ports.count are.2 first.1 after
+        → RunGoes start.durable.heads.ports.count taken card after
     joined later =
-        subst (λ (its : List Stepped). RunGoes its card after) (sym are.5) (
+        subst (λ (its : List Stepped). RunGoes start.durable.heads.ports.count its card after)
+        (sym are.5) (
           joined_share first.0 later.0,
           later.1,
           (first.0, later.0, first.2, later.2, refl),
           runs_more card first.0.given later.0.given first.0.answers later.0.answers first.1
               later.1 first.3 later.3,
           later.4,
+          (
+            first.0,
+            later.0,
+            first.0.answers,
+            first.1,
+            share_alike profile (seen_in start)
+                (seen_by profile start.durable.heads.ports.count card)
+                (shows_same profile start sound.are card now.its
+                start.durable.heads.ports.count refl) (told_of first_step) first.0 first.2,
+            first.3,
+            subst (λ (ports : ℕ). IsFed profile ports first.1 (map told_of are.2) later.0)
+                (sym same_ports) later.5,
+            refl,
+          ),
         )
 
     more : ((next : Card) → IsSoundState done.state
@@ -295,8 +318,9 @@ module _ (profile : ℕ) (content : Content) where
         → AreDurable are.2
         → (done.state.durable.heads.next_number ≤ profile
         → AllByRecursion (InstallsWith profile content) are.2)
-        → IsNow profile content done.state next → RunGoes are.2 next after)
-        → RunGoes taken card after
+        → IsNow profile content done.state next
+        → RunGoes done.state.durable.heads.ports.count are.2 next after)
+        → RunGoes start.durable.heads.ports.count taken card after
     more goes =
         joined (goes first.1 sound_now on_now durable_now.1 rest_installs first.4)
 
@@ -306,9 +330,10 @@ module _ (profile : ℕ) (content : Content) where
       → AreSteps start came taken after → AreDurable taken
       → (start.durable.heads.next_number ≤ profile
       → AllByRecursion (InstallsWith profile content) taken)
-      → IsNow profile content start card → RunGoes taken card after
+      → IsNow profile content start card
+      → RunGoes start.durable.heads.ports.count taken card after
   run_goes [] start taken after card sound on are durable installs now =
-      ends start after card taken are.0 are.1 now
+      ends start.durable.heads.ports.count start after card taken are.0 are.1 now
   run_goes (event ∷ came) start taken after card sound on are durable installs now =
       more event came start taken after card sound on are durable installs now
       (λ card sound on durable installs now.
@@ -346,18 +371,37 @@ module _ (profile : ℕ) (start : WorldState) (sound : IsSoundState start) (card
   begins : IsNow profile card.content start card
   begins = record { its = alone.its; pending = λ low. refl }
 
--- each profile is answered as its card alone
-pub answered_alone : (start : WorldState) (came : List Event) (taken : List Stepped)
-    (after : WorldState) → IsSoundState start
-    → AllByRecursion (IsOnCard start.durable.heads.ports.count) came
-    → AreSteps start came taken after
-    → AllByRecursion (λ step. IsDurable step.made.state.durable) taken
-    → (profile : ℕ) → IsAnsweredAlone profile start taken after
-answered_alone start came taken after sound on are durable profile card alone =
-    let goes = run_goes profile card.content came start taken after card sound on are durable
-    (installs profile start sound card taken alone (held_content profile start.durable) refl)
-    (begins profile start sound card taken alone) in
-    (goes.0, goes.1, goes.2, goes.3, goes.4.its)
+-- each profile is answered as its card alone, by what it is given and by what is told of it
+module _ (start : WorldState) (came : List Event) (taken : List Stepped) (after : WorldState)
+    (sound : IsSoundState start)
+    (on : AllByRecursion (IsOnCard start.durable.heads.ports.count) came)
+    (are : AreSteps start came taken after)
+    (durable : AllByRecursion (λ step. IsDurable step.made.state.durable) taken) where
+  goes_alone : (profile : ℕ) (card : Card) → StartsAlone profile start taken card
+      → RunGoes profile card.content start.durable.heads.ports.count taken card after
+  goes_alone profile card alone =
+      run_goes profile card.content came start taken after card sound on are durable
+      (installs profile start sound card taken alone (held_content profile start.durable) refl)
+      (begins profile start sound card taken alone)
+
+  pub answered_alone : (profile : ℕ) → IsAnsweredAlone profile start taken after
+  answered_alone profile card alone =
+      let goes = goes_alone profile card alone in
+      (goes.0, goes.1, goes.2, goes.3, goes.4.its)
+
+  pub told_alone : (profile : ℕ) → IsToldAlone profile start taken (map told_of taken) after
+  told_alone profile card alone =
+      let goes = goes_alone profile card alone in
+      (goes.0, goes.1, goes.5, goes.3, goes.4.its)
+
+  -- what is told tells what is given
+  pub told_given : (profile : ℕ) (card : Card) (share : Share)
+      → StartsAlone profile start taken card → AreShares profile taken share
+      → IsFed profile start.durable.heads.ports.count card (map told_of taken) share
+  told_given profile card share alone shares =
+      let goes = goes_alone profile card alone in
+      subst (IsFed profile start.durable.heads.ports.count card (map told_of taken))
+      (AreShares-once profile taken goes.0 share goes.2 shares) goes.5
 
 -- in a run of a sound card each step leaves what a card may keep
 pub steps_durable : (came : List Event) (start : WorldState) (taken : List Stepped)

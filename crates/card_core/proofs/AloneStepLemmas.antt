@@ -38,6 +38,7 @@ use Rattle.card_core.proofs.MovedLemmas.{stands}
 use Rattle.card_core.proofs.SeenLemmas.{seen_alike}
 use Rattle.card_core.proofs.SoundLemmas.{sound_card}
 use Rattle.card_core.proofs.StayLemmas.{heads_where, held_elsewhere, other_port}
+use Rattle.card_core.proofs.StepShareLemmas.{SharesOwn, entry_gives, lines_given, share_of_command}
 use Rattle.card_core.specs.Failed.{FailsWith, FailsLoadWith, failed_begin, failed_command}
 use Rattle.card_core.specs.Failed.{failed_end}
 use Rattle.card_core.specs.Failed.{failed_piece}
@@ -46,7 +47,6 @@ use Rattle.card_core.specs.OwnCommand.{own_made}
 use Rattle.card_core.specs.Port.{profile_on}
 use Rattle.card_core.specs.PortReset.{reset_made}
 use Rattle.card_core.specs.PortState.{PortState, counted}
-use Rattle.card_core.specs.Share.{IsOwnShare, command_share, given_by_entry, given_by_lines}
 use Rattle.card_core.specs.Share.{answers_in, given_by_lsi, given_there, no_share}
 use Rattle.card_core.specs.Sound.{IsSoundState}
 use Rattle.card_core.specs.Stepped.{Stepped}
@@ -181,7 +181,7 @@ module _ (profile : ℕ) (content : Content) (state : WorldState) (sound : IsSou
       heads = heads_where state.durable port change
 
       share_is : record { given = Command bytes ∷ []; answers = outcome_answer ∷ [] }
-          ≡ command_share step port bytes c
+          ≡ share_of_command step port bytes c
       share_is =
           ap (λ (common : Bool). cond common (record {
             given = cond (nat_eq c.ins 0x7A)
@@ -267,7 +267,7 @@ module _ (profile : ℕ) (content : Content) (state : WorldState) (sound : IsSou
     lsi_step made = step_of (events.Apdu came bytes) false made
 
     lsi_share : (made : Made) → record { given = given_by_lsi came asked; answers = [] }
-        ≡ command_share (lsi_step made) came bytes c
+        ≡ share_of_command (lsi_step made) came bytes c
     lsi_share made =
         ap (λ (its : Bool). record { given = cond its (given_by_lsi came asked) []; answers = [] })
         (sym is_lsi)
@@ -279,7 +279,7 @@ module _ (profile : ℕ) (content : Content) (state : WorldState) (sound : IsSou
     -- where it asks for no reset of the port of the profile, it gives the profile nothing
     lsi_nothing : (made : Made) (its : Result Lsi Sw) → asked ≡ its
         → (profile_on state.durable came ≡ Some profile → given_by_lsi came its ≡ [])
-        → IsOwnShare profile (lsi_step made) false no_share
+        → SharesOwn profile (lsi_step made) false no_share
     lsi_nothing made its is none =
         elim (here_or_not profile (profile_on state.durable came)) [
           | inl on ↦ bytes_here profile content (lsi_step made) came bytes no_share on
@@ -311,14 +311,14 @@ module _ (profile : ℕ) (content : Content) (state : WorldState) (sound : IsSou
         held = λ nowhere its held. held;
       }
 
-      line_gives : given_by_lines profile (lsi_step done) ≡ cond (nat_eq port came) []
+      line_gives : lines_given profile (lsi_step done) ≡ cond (nat_eq port came) []
           (given_there profile (profile_on state.durable port) (Restart ∷ []))
       line_gives = by (nat_eq port came)
         where
           line : Entry
           line = entry_at state port (ForeignReset (next_maker state came))
 
-          by : (same : Bool) → flat_map (given_by_entry profile state) (cond same [] (line ∷ []))
+          by : (same : Bool) → flat_map (entry_gives profile state) (cond same [] (line ∷ []))
               ≡ cond same [] (given_there profile (profile_on state.durable port) (Restart ∷ []))
           by true = refl
           by false =
@@ -335,7 +335,7 @@ module _ (profile : ℕ) (content : Content) (state : WorldState) (sound : IsSou
           by false same = refl
 
       no_lines : profile_on state.durable port ≢ Some profile
-          → given_by_lines profile (lsi_step done) ≡ []
+          → lines_given profile (lsi_step done) ≡ []
       no_lines apart =
           line_gives
           ∙ ap (λ (its : List CardEvent). cond (nat_eq port came) [] its)
@@ -387,12 +387,12 @@ module _ (profile : ℕ) (content : Content) (state : WorldState) (sound : IsSou
         → GoesBy (events.Apdu came bytes) false (lsi_asked_for state came its)
     lsi_goes_by (Ok lsi.Count) is =
         goes_quiet profile content (lsi_step (lsi_asked_for state came (Ok lsi.Count))) card
-        (lsi_nothing _ (Ok lsi.Count) is (λ on. refl)) refl
+        (lsi_nothing (lsi_asked_for state came (Ok lsi.Count)) (Ok lsi.Count) is (λ on. refl)) refl
         (put_stays came (counted (port_in state came)) state.shared state.commits refl)
     lsi_goes_by (Ok (lsi.Reset port)) is = reset_goes_at port is
     lsi_goes_by (Err sw) is =
         goes_quiet profile content (lsi_step (lsi_asked_for state came (Err sw))) card
-        (lsi_nothing _ (Err sw) is (λ on. refl)) refl
+        (lsi_nothing (lsi_asked_for state came (Err sw)) (Err sw) is (λ on. refl)) refl
         (put_stays came (counted (port_in state came)) state.shared state.commits refl)
 
     pub lsi_goes : GoesBy (events.Apdu came bytes) false (lsi_made state came c)
@@ -422,9 +422,9 @@ module _ (profile : ℕ) (content : Content) (state : WorldState) (sound : IsSou
   pub fails_goes : (event : Event) (made : Made) → FailsWith state event made
       → GoesBy event true made
   fails_goes (events.Apdu port bytes) made is =
-      subst (GoesBy (events.Apdu port bytes) true) (sym is.4)
+      subst (GoesBy (events.Apdu port bytes) true) (sym is.3)
       (goes_quiet profile content
-      (step_of (events.Apdu port bytes) true (failed_command state port is.0 is.1 is.2)) card refl
+      (step_of (events.Apdu port bytes) true (failed_command state port is.0 is.1)) card refl
       refl
       (put_stays port _ _ state.commits refl))
   fails_goes (events.Reset port) made is = absurd is

@@ -71,9 +71,9 @@ module _ (port : ℕ) (state : WorldState) (sound : IsSound (card_in state port)
       → FailsWith state (events.Apdu port bytes) made → made.state.shared ≡ state.shared
       → IsLocal port state (events.Apdu port bytes) true made
   counted_failed_local bytes made is stays =
-      failed_local port state sound bytes is.0 is.1 is.2 made is.3
+      failed_local port state sound bytes is.0 is.1 made is.2
       (not_counted_by state.shared (Counts port state sound (view_at state port) is.0)
-      (ap (λ (its : Made). its.state.shared) (sym is.4) ∙ stays)) is.4
+      (ap (λ (its : Made). its.state.shared) (sym is.3) ∙ stays)) is.3
 
   counted_step_local : (step : LoadStep) (failed : Bool) (made : Made)
       → Happens failed state (events.Load port step) made → made.state.shared ≡ state.shared

@@ -13,7 +13,7 @@ use Rattle.card_core.proofs.ShownLemmas.{IsFit, IsGood, Runs, Shown, good_after,
 use Rattle.card_core.proofs.ShownLemmas.{shown_of}
 use Rattle.card_core.proofs.ShownLemmas.{local_there, unshared_at}
 use Rattle.card_core.proofs.StatementLemmas.{IsLineOf, IsStatementMade, its_port}
-use Rattle.card_core.proofs.LineLemmas.{own_first}
+use Rattle.card_core.proofs.LineLemmas.{own_first, telling_lines}
 use Rattle.card_core.specs.Merge.{ComesToPort, maker_of}
 use Rattle.card_core.specs.Stretch.{is_for}
 use Rattle.card_core.specs.World.{Made, WorldState, count_if, port_in}
@@ -49,6 +49,7 @@ pub record IsTold (count : ℕ) (item : Shown) : Type 0 where
   pub lines : AllByRecursion (IsItemLine count item) item.entries
   pub order : EachTwo (AtMost (own_first (its_port item.event))) item.entries
   pub shared : ((item.next ≡ item.turn) × HasOneLine item) ⊎ (item.next ≡ item.turn + 1)
+  pub tells : (one : Entry) × (telling_lines item.entries ≡ one ∷ [])
   pub once : (profile one other : ℕ)
       → slice_index_or item.heads.ports.on one None ≡ Some profile
       → slice_index_or item.heads.ports.on other None ≡ Some profile → one ≡ other
@@ -106,6 +107,7 @@ one_told count state event failed made good its own = record {
     )
     | inr more ↦ inr more
   ];
+  tells = its.tells;
   once = one_port state.durable good.sound.are;
 }
 

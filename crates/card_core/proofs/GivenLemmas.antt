@@ -8,9 +8,10 @@ use Rattle.isdr_commands.specs.declared.moves.Move.{Move}
 use Rattle.plain_lists.specs.EachTwo.{EachTwo}
 use Rattle.profile_card.specs.Step.{Event as CardEvent}
 use Rattle.profile_card.specs.Step.Event.{Bound as BoundTo, Unbound as Freed}
+use Rattle.card_core.proofs.StepShareLemmas.{entry_gives}
 use Rattle.card_core.specs.IsdrCommand.{bound_line, kept_told, move_at, move_lines, moves_lines}
 use Rattle.card_core.specs.IsdrCommand.{other_move_lines, own_move_lines, unbound_line}
-use Rattle.card_core.specs.Share.{given_by_entry, given_there}
+use Rattle.card_core.specs.Share.{given_there}
 use Rattle.card_core.specs.World.{WorldState}
 use Rattle.card_core.specs.declared.entry.Entry.{Entry}
 use Rattle.card_core.specs.declared.telling.Telling.{Telling}
@@ -76,7 +77,7 @@ module _ {X : Type 0} (give : Move → List X) where
 
 module _ (profile : ℕ) (before : WorldState) (telling : Telling) where
   abbrev pub given_in : List Entry → List CardEvent
-  given_in entries = flat_map (given_by_entry profile before) entries
+  given_in entries = flat_map (entry_gives profile before) entries
 
   -- what a profile that leaves, and one that comes, is given
   abbrev pub left_by : Option ℕ → List CardEvent
@@ -101,7 +102,7 @@ module _ (profile : ℕ) (before : WorldState) (telling : Telling) where
 
   move_is : (move : Move) → given_in (move_lines telling move) ≡ given_by_move move
   move_is move =
-      flat_map-append (given_by_entry profile before) (unbound_line telling move move.leaves)
+      flat_map-append (entry_gives profile before) (unbound_line telling move move.leaves)
       (bound_line telling move move.comes)
       ∙ ap (λ (its : List CardEvent). its ++ given_in (bound_line telling move move.comes))
       (left_is move move.leaves)
@@ -112,7 +113,7 @@ module _ (profile : ℕ) (before : WorldState) (telling : Telling) where
       → given_in (flat_map pick moves) ≡ flat_map give moves
   picked pick give is [] = refl
   picked pick give is (move ∷ moves) =
-      flat_map-append (given_by_entry profile before) (pick move) (flat_map pick moves)
+      flat_map-append (entry_gives profile before) (pick move) (flat_map pick moves)
       ∙ ap (λ (its : List CardEvent). its ++ given_in (flat_map pick moves)) (is move)
       ∙ ap (λ (its : List CardEvent). give move ++ its) (picked pick give is moves)
 
@@ -179,7 +180,7 @@ module _ (profile : ℕ) (before : WorldState) (telling : Telling) where
       → AllByRecursion (λ move. move.port ≢ port → given_by_move move ≡ []) moves
       → given_in (moves_lines telling moves) ≡ given_by given_by_move (move_at moves port)
   lines_give port moves once each =
-      flat_map-append (given_by_entry profile before) (flat_map (own_move_lines telling) moves)
+      flat_map-append (entry_gives profile before) (flat_map (own_move_lines telling) moves)
       (flat_map (other_move_lines telling) moves)
       ∙ ap (λ (its : List CardEvent). its
       ++ given_in (flat_map (other_move_lines telling) moves))

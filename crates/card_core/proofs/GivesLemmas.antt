@@ -19,9 +19,10 @@ use Rattle.card_core.proofs.LocalLemmas.{IsOwnLine}
 use Rattle.card_core.proofs.ShownLemmas.{MaySwap, Shown, shown}
 use Rattle.card_core.proofs.SortLemmas.{in_order, is_before, order_each, put}
 use Rattle.card_core.proofs.StatementLemmas.{its_port}
+use Rattle.card_core.proofs.StepShareLemmas.{SharesAt, SharesEvent, SharesOwn}
 use Rattle.card_core.specs.Merge.{ComesToPort}
 use Rattle.card_core.specs.Port.{profile_on}
-use Rattle.card_core.specs.Share.{AreShares, IsEventShare, IsOwnShare, IsShareAt, Share, answers_in}
+use Rattle.card_core.specs.Share.{AreShares, Share, answers_in}
 use Rattle.card_core.specs.Share.{given_by_line, given_by_lsi, joined_share, no_share}
 use Rattle.card_core.specs.Stepped.{Stepped}
 use Rattle.card_core.specs.World.{Made, WorldState}
@@ -92,18 +93,18 @@ module _ (profile : ℕ) (before : WorldState) (failed : Bool) (made : Made) (sh
   its_step event = record { before = before; event = event; failed = failed; made = made }
 
   at_shows : (port : ℕ) (bytes : List ℕ) (on : Option ℕ)
-      → IsShareAt profile on (its_step (events.Apdu port bytes)) port bytes share
+      → SharesAt profile on (its_step (events.Apdu port bytes)) port bytes share
       → GiveAt profile on (shown (its_step (events.Apdu port bytes))) port bytes share
   at_shows port bytes None its = its
   at_shows port bytes (Some other) its = its
 
   at_shown : (port : ℕ) (bytes : List ℕ) (on : Option ℕ)
       → GiveAt profile on (shown (its_step (events.Apdu port bytes))) port bytes share
-      → IsShareAt profile on (its_step (events.Apdu port bytes)) port bytes share
+      → SharesAt profile on (its_step (events.Apdu port bytes)) port bytes share
   at_shown port bytes None its = its
   at_shown port bytes (Some other) its = its
 
-  event_shows : (event : Event) → IsEventShare profile (its_step event) event share
+  event_shows : (event : Event) → SharesEvent profile (its_step event) event share
       → EventGives profile (shown (its_step event)) event share
   event_shows (events.Apdu port bytes) its =
       at_shows port bytes (profile_on before.durable port) its
@@ -112,7 +113,7 @@ module _ (profile : ℕ) (before : WorldState) (failed : Bool) (made : Made) (sh
   event_shows events.Power its = its
 
   event_shown : (event : Event) → EventGives profile (shown (its_step event)) event share
-      → IsEventShare profile (its_step event) event share
+      → SharesEvent profile (its_step event) event share
   event_shown (events.Apdu port bytes) its =
       at_shown port bytes (profile_on before.durable port) its
   event_shown (events.Reset port) its = its
@@ -121,13 +122,13 @@ module _ (profile : ℕ) (before : WorldState) (failed : Bool) (made : Made) (sh
 
 module _ (profile : ℕ) where
   own_shows : (step : Stepped) (share : Share) (failed : Bool)
-      → IsOwnShare profile step failed share → OwnGives profile (shown step) step.event failed share
+      → SharesOwn profile step failed share → OwnGives profile (shown step) step.event failed share
   own_shows step share false its =
       event_shows profile step.before step.failed step.made share step.event its
   own_shows step share true its = its
 
   own_shown : (step : Stepped) (share : Share) (failed : Bool)
-      → OwnGives profile (shown step) step.event failed share → IsOwnShare profile step failed share
+      → OwnGives profile (shown step) step.event failed share → SharesOwn profile step failed share
   own_shown step share false its =
       event_shown profile step.before step.failed step.made share step.event its
   own_shown step share true its = its

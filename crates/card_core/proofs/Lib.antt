@@ -12,6 +12,7 @@ pub mod ChangeLemmas
 pub mod CommandLemmas
 pub mod CountedLemmas
 pub mod EachLemmas
+pub mod FedLemmas
 pub mod FollowLemmas
 pub mod GivenLemmas
 pub mod GivesLemmas
@@ -43,10 +44,12 @@ pub mod SoundLemmas
 pub mod SoundLoadLemmas
 pub mod StatementLemmas
 pub mod StayLemmas
+pub mod StepShareLemmas
 pub mod StepsLemmas
 pub mod StoodLemmas
 pub mod StretchLemmas
 pub mod StretchRunLemmas
 pub mod ToldLemmas
+pub mod ToldStepsLemmas
 pub mod WholeLemmas
 pub mod WithinLemmas

@@ -1,8 +1,9 @@
 -- The lines of a statement: whose they are, and their order.
 use Rattle.std.proofs.Common.{◌≡◌, ◌≢◌, ◌<◌, ℕ, Bool, true, false, cond, nat_eq, nat_lt}
 use Rattle.std.proofs.Common.{List, [], ◌∷◌, ◌++◌, Option, Some, None, Result, Ok, Err, refl, sym}
-use Rattle.std.proofs.Common.{◌∙◌, ap, arith, inl, inr, eqb-true}
+use Rattle.std.proofs.Common.{◌∙◌, ap, arith, inl, inr, eqb-true, filter, flat_map}
 use Rattle.std.proofs.lemmas.Bool.{eq-eqb, eqb-false, ltb-true, ne_eqb}
+use Rattle.std.proofs.lemmas.List.Elements.{filter-append}
 use Rattle.std.specs.List.{AllByRecursion}
 use Rattle.std.specs.Prelude.{◌&&◌}
 use Rattle.apdu_codec.specs.Command.{Apdu}
@@ -20,7 +21,7 @@ use Rattle.card_core.proofs.RankLemmas.{each_weaker}
 use Rattle.card_core.specs.IsdrCommand.{bound_line}
 use Rattle.card_core.specs.IsdrCommand.{move_lines, other_move_lines}
 use Rattle.card_core.specs.IsdrCommand.{own_move_lines, unbound_line}
-use Rattle.card_core.specs.Merge.{maker_at, maker_of}
+use Rattle.card_core.specs.Merge.{maker_at, maker_of, tells_statement}
 use Rattle.card_core.specs.declared.entry.Entry.{Entry}
 use Rattle.card_core.specs.declared.entry.Line.{Line}
 use Rattle.card_core.specs.declared.entry.Line.TheVariants as lines
@@ -47,6 +48,19 @@ own_maker port number (lines.Loaded its outcome) is =
 own_maker port number (lines.ForeignReset maker) is = absurd is
 own_maker port number (lines.Unbound profile refresh kept maker commit) is = absurd is
 own_maker port number (lines.Bound profile refresh kept maker commit) is = absurd is
+
+-- the lines that tell a statement
+abbrev pub telling_lines : List Entry → List Entry
+telling_lines entries = filter (λ entry. tells_statement entry.line) entries
+
+pub own_tells : (number : ℕ) (line : Line) → IsOwnLine number line
+    → tells_statement line ≡ true
+own_tells number (lines.Answered its answer cause) is = refl
+own_tells number (lines.OwnReset its) is = refl
+own_tells number (lines.Loaded its outcome) is = refl
+own_tells number (lines.ForeignReset maker) is = absurd is
+own_tells number (lines.Unbound profile refresh kept maker commit) is = absurd is
+own_tells number (lines.Bound profile refresh kept maker commit) is = absurd is
 
 -- a MANAGE LSI resets a port of the card
 abbrev pub ResetsBelow : ℕ → Result Lsi Sw → Type 0
@@ -150,6 +164,51 @@ module _ (telling : Telling) where
     pub at : entry.port ≡ port
     pub turn : entry.turn ≡ telling.turn
     pub maker : maker_of entry ≡ telling.by
+
+  move_quiet : (move : Move) → telling_lines (move_lines telling move) ≡ []
+  move_quiet move =
+      filter-append (λ (entry : Entry). tells_statement entry.line)
+      (unbound_line telling move move.leaves) (bound_line telling move move.comes)
+      ∙ ap (λ (its : List Entry). its ++ telling_lines (bound_line telling move move.comes))
+      (unbound move.leaves)
+      ∙ bound move.comes
+    where
+      unbound : (left : Option ℕ) → telling_lines (unbound_line telling move left) ≡ []
+      unbound None = refl
+      unbound (Some profile) = refl
+
+      bound : (came : Option ℕ) → telling_lines (bound_line telling move came) ≡ []
+      bound None = refl
+      bound (Some profile) = refl
+
+  -- no line about a move tells a statement
+  pub own_quiet : (moves : List Move)
+      → telling_lines (flat_map (own_move_lines telling) moves) ≡ []
+  own_quiet [] = refl
+  own_quiet (move ∷ moves) =
+      filter-append (λ (entry : Entry). tells_statement entry.line) (own_move_lines telling move)
+      (flat_map (own_move_lines telling) moves)
+      ∙ ap (λ (its : List Entry). its
+      ++ telling_lines (flat_map (own_move_lines telling) moves))
+      (by (nat_eq move.port telling.by.port)) ∙ own_quiet moves
+    where
+      by : (here : Bool) → telling_lines (cond here (move_lines telling move) []) ≡ []
+      by true = move_quiet move
+      by false = refl
+
+  pub others_quiet : (moves : List Move)
+      → telling_lines (flat_map (other_move_lines telling) moves) ≡ []
+  others_quiet [] = refl
+  others_quiet (move ∷ moves) =
+      filter-append (λ (entry : Entry). tells_statement entry.line)
+      (other_move_lines telling move) (flat_map (other_move_lines telling) moves)
+      ∙ ap (λ (its : List Entry). its
+      ++ telling_lines (flat_map (other_move_lines telling) moves))
+      (by (nat_eq move.port telling.by.port)) ∙ others_quiet moves
+    where
+      by : (here : Bool) → telling_lines (cond here [] (move_lines telling move)) ≡ []
+      by true = refl
+      by false = move_quiet move
 
   unbound_told : (move : Move) (left : Option ℕ)
       → AllByRecursion (IsToldAt move.port) (unbound_line telling move left)

@@ -22,7 +22,7 @@ use Rattle.card_core.proofs.CameLemmas.{state_with}
 use Rattle.card_core.proofs.OutcomeLemmas.{get_response-has}
 use Rattle.card_core.specs.Desk.{desk_outcome, exchange_at, with_exchange}
 use Rattle.card_core.specs.DeskOutcome.{DeskOutcome, desk_answer, desk_refusal}
-use Rattle.card_core.specs.Failed.{failed_command, failed_port, spoiled}
+use Rattle.card_core.specs.Failed.{failed_answer, failed_command, failed_port, spoiled}
 use Rattle.card_core.specs.GetResponse.{get_response}
 use Rattle.card_core.specs.IsdrCommand.{at_each, busy_of, came_at, is_shared_command, isdr_carried}
 use Rattle.card_core.specs.IsdrCommand.{isdr_made, kept_on, move_at, port_moved}
@@ -377,31 +377,31 @@ module _ (port : ℕ) where
         by true false is_store is its none = none
         by false is_lsi is_store is its none = refl
 
-    failed_is : (one : WorldState) (c : Apdu) (answer : Answer) (cause : Option Cause)
+    failed_is : (one : WorldState) (c : Apdu) (cause : Option Cause)
         → Counts (view_at one port) c ≡ false
         → local_made one port (answered_local (view_at one port)
-        (failed_port (port_in one port) c) answer cause)
-        ≡ failed_command one port c answer cause
-    failed_is one c answer cause none =
+        (failed_port (port_in one port) c) (failed_answer cause) cause)
+        ≡ failed_command one port c cause
+    failed_is one c cause none =
         let shared : one.shared ≡ one.shared + count_if false = omega arith in
         same_commits one _ _
         ∙ ap (λ (n : ℕ). record {
           state = state_with one.durable
               (slice_set one.ports port (failed_port (port_in one port) c)) n one.commits;
           entries = entry_at one port
-              (lines.Answered (number_in (view_at one port)) answer cause) ∷ [];
+              (lines.Answered (number_in (view_at one port)) (failed_answer cause) cause) ∷ [];
         }) (shared ∙ ap (λ (its : Bool). one.shared + count_if its) (sym none))
 
-    pub failed_local : (bytes : List ℕ) (c : Apdu) (answer : Answer) (cause : Option Cause)
-        (made : Made) → Spells bytes c → Counts (view_at state port) c ≡ false
-        → made ≡ failed_command state port c answer cause
+    pub failed_local : (bytes : List ℕ) (c : Apdu) (cause : Option Cause) (made : Made)
+        → Spells bytes c → Counts (view_at state port) c ≡ false
+        → made ≡ failed_command state port c cause
         → IsLocal state (events.Apdu port bytes) true made
-    failed_local bytes c answer cause made spelled uncounted is =
+    failed_local bytes c cause made spelled uncounted is =
         build state (events.Apdu port bytes) true made
-        (λ view. answered_local view (failed_port view.port c) answer cause)
+        (λ view. answered_local view (failed_port view.port c) (failed_answer cause) cause)
         (λ view. Counts view c ≡ false)
-        (λ one may. (c, answer, cause, spelled, failed_is one c answer cause may))
-        uncounted (is ∙ sym (failed_is state c answer cause uncounted)) tt refl
+        (λ one may. (c, cause, spelled, failed_is one c cause may))
+        uncounted (is ∙ sym (failed_is state c cause uncounted)) tt refl
 
     -- the steps of a load but its end
     pub load_local_is : (step : LoadStep) (failed : Bool) (made : Made) → IsUnshared step
@@ -460,7 +460,7 @@ module _ (port : ℕ) where
     stays_local true (events.Apdu came bytes) made stays =
         subst (λ (n : ℕ). Happens true state (events.Apdu n bytes) made
         → IsLocal state (events.Apdu n bytes) true made) (sym stays.0)
-        (λ is. failed_local bytes is.0 is.1 is.2 made is.3
-        (not_counted is.0 (stays.1 is.0 is.3)) is.4)
+        (λ is. failed_local bytes is.0 is.1 made is.2
+        (not_counted is.0 (stays.1 is.0 is.2)) is.3)
     stays_local true (events.Reset came) made stays = λ is. absurd is
     stays_local true events.Power made stays = absurd stays

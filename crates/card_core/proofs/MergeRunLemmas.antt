@@ -1,11 +1,11 @@
 -- A run of a section and the run of the same statements in the order of the merge.
 use Rattle.std.proofs.Common.{◌≡◌, ◌≢◌, ◌<◌, ◌≤◌, ◌+◌, ◌-◌, ℕ, Bool, true, false, cond, nat_eq}
-use Rattle.std.proofs.Common.{List, [], ◌∷◌, ◌++◌, flat_map, length, map, refl, sym, ◌∙◌, ap}
+use Rattle.std.proofs.Common.{List, [], ◌∷◌, ◌++◌, filter, flat_map, length, map, refl, sym, ◌∙◌, ap}
 use Rattle.std.proofs.Common.{subst, arith, inl, inr}
 use Rattle.std.proofs.lemmas.Bool.{ne_eqb}
 use Rattle.std.proofs.lemmas.List.Elements.{filter-append}
 use Rattle.std.specs.List.{AllByRecursion, range_with_len}
-use Rattle.std.specs.Prelude.{IfSome}
+use Rattle.std.specs.Prelude.{IfSome, slice_index_or}
 use Rattle.plain_lists.specs.EachTwo.{EachTwo}
 use Rattle.record_codec.specs.IsDurable.{IsDurable}
 use Rattle.record_codec.specs.declared.durable.Durable.{Durable}
@@ -13,10 +13,12 @@ use Rattle.card_core.proofs.ChangeLemmas.{either_order, item_lines, item_phase, 
 use Rattle.card_core.proofs.ChangeLemmas.{lines_either, may_swap, one_apart, order_runs}
 use Rattle.card_core.proofs.ChangeLemmas.{shared_either}
 use Rattle.card_core.proofs.ChangeLemmas.{shared_of}
-use Rattle.card_core.proofs.FollowLemmas.{Follows, IsTold, comes_by, follow, number_of, told}
+use Rattle.card_core.proofs.FollowLemmas.{Follows, IsTold, comes_by, follow, its_maker, number_of}
+use Rattle.card_core.proofs.FollowLemmas.{told}
 use Rattle.card_core.proofs.GivesLemmas.{AllGive, OneQuiet, all_show, all_shown, one_quiet}
 use Rattle.card_core.proofs.GivesLemmas.{order_give}
-use Rattle.card_core.proofs.MergedLemmas.{merge_is, turns_within}
+use Rattle.card_core.proofs.LineLemmas.{telling_lines}
+use Rattle.card_core.proofs.MergedLemmas.{makers_where, marked as marked_by, merge_is, turns_within}
 use Rattle.card_core.proofs.PhaseLemmas.{InPhases, in_phases, phase_from}
 use Rattle.card_core.proofs.PhaseOrderLemmas.{KeepsBy, come_by_numbers, events_in, keeps_again}
 use Rattle.card_core.proofs.PhaseOrderLemmas.{keeps_alike, picked, picked_either}
@@ -28,15 +30,21 @@ use Rattle.card_core.proofs.ShownLemmas.{IsFit, IsGood, MaySwap, Runs, Shown, Sh
 use Rattle.card_core.proofs.ShownLemmas.{shown_run}
 use Rattle.card_core.proofs.ShownLemmas.{shows}
 use Rattle.card_core.proofs.SortLemmas.{in_order, is_before, order_each, order_gives, ordered}
+use Rattle.card_core.proofs.AloneRunLemmas.{told_alone}
 use Rattle.card_core.proofs.SoundLemmas.{opened_sound}
 use Rattle.card_core.proofs.StatementLemmas.{its_port}
-use Rattle.card_core.specs.Merge.{ComeInPhases, ComesToPort, RunsAsMerged, Told, lanes_of}
-use Rattle.card_core.specs.Merge.{makers_in, merge, phase_at, shared_in, told_of, was_shared}
+use Rattle.card_core.proofs.ToldStepsLemmas.{IsNumbered, all_told, numbered, phases_at, told_item}
+use Rattle.card_core.specs.Fed.{IsToldAlone}
+use Rattle.card_core.specs.Merge.{ComeInPhases, ComesToPort, RunsAsMerged, event_numbered}
+use Rattle.card_core.specs.Merge.{failed_in, is_made_by_one_of, lanes_of, maker_of, makers_in}
+use Rattle.card_core.specs.Merge.{merge, phase_at, shared_in, statement_told, steps_of}
+use Rattle.card_core.specs.Merge.{was_shared}
 use Rattle.card_core.specs.PortState.{PortState}
 use Rattle.card_core.specs.Run.{IsOnCard}
 use Rattle.card_core.specs.Sound.{HasSoundLoads, IsSoundLoad}
 use Rattle.card_core.specs.Stepped.{AreSteps, Stepped}
 use Rattle.card_core.specs.Stretch.{entries_of, is_for, lines_at, steps_at}
+use Rattle.card_core.specs.Told.{Told, told_of}
 use Rattle.card_core.specs.World.{WorldState, next_maker, opened, port_in}
 use Rattle.card_core.specs.declared.entry.Entry.{Entry}
 use Rattle.card_core.specs.declared.entry.Maker.{Maker}
@@ -79,9 +87,23 @@ shared_shown (step ∷ taken) comes =
     marked : Bool → List Maker → List Maker
     marked here makers = cond here makers []
 
--- what is told of an item of a port
-abbrev told_item : Shown → Told
-told_item item = record { event = item.event; failed = item.failed; entries = item.entries }
+-- which statements failed
+failed_shown : (taken : List Stepped)
+    → AllByRecursion (λ item. ComesToPort item.event) (map shown taken)
+    → flat_map failed_in taken ≡ flat_map (makers_where (λ item. item.failed)) (map shown taken)
+failed_shown [] comes = refl
+failed_shown (step ∷ taken) comes =
+    ap (λ (its : List Maker). marked step.failed its ++ flat_map failed_in taken)
+    (makers_are step.before step.event comes.0)
+    ∙ ap (λ (its : List Maker). makers_where (λ item. item.failed) (shown step) ++ its)
+    (failed_shown taken comes.1)
+  where
+    marked : Bool → List Maker → List Maker
+    marked here makers = cond here makers []
+
+told_items : (taken : List Stepped) → map told_of taken ≡ map told_item (map shown taken)
+told_items [] = refl
+told_items (step ∷ taken) = ap (λ (its : List Told). told_of step ∷ its) (told_items taken)
 
 abbrev told_at : ℕ → Shown → List Told
 told_at port item = cond (is_for port item.event) (told_item item ∷ []) []
@@ -141,6 +163,11 @@ items_fit count [] comes on = tt
 items_fit count (item ∷ items) comes on =
     (record { comes = comes.0; on = on.0 }, items_fit count items comes.1 on.1)
 
+items_on : (count : ℕ) (items : List Shown) → AllByRecursion (IsFit count) items
+    → AllByRecursion (IsOnCard count) (events_in items)
+items_on count [] fits = tt
+items_on count (item ∷ items) fits = (fits.0.on, items_on count items fits.1)
+
 pub opened_loads : (start : Durable) → HasSoundLoads (opened start)
 opened_loads start port =
     subst (λ (its : PortState). IfSome its.load IsSoundLoad)
@@ -174,6 +201,10 @@ module _ (phases : List (List Event)) (start : Durable) (came : List Event) (tak
       items_fit count items
       (subst (AllByRecursion ComesToPort) (sym seen) (come_to_ports phases came come))
       (subst (AllByRecursion (IsOnCard count)) (sym seen) on)
+
+  all_come : AllByRecursion (λ item. ComesToPort item.event) items
+  all_come =
+      each_weaker (IsFit count) (λ item. ComesToPort item.event) (λ item fit. fit.comes) items fits
 
   -- phases are counted from the start on
   phase_is : (item : Shown) → phase_from phases first item ≡ item_phase phases item
@@ -277,20 +308,21 @@ module _ (phases : List (List Event)) (start : Durable) (came : List Event) (tak
   lanes_are : record {
     logs = map (λ port. lines_at port merged_lines) (range_with_len 0 count);
     shared = flat_map shared_of in_merge;
+    failed = flat_map failed_in taken;
   } ≡ lanes_of count taken
   lanes_are =
       ap (λ (logs : List (List Entry)). record {
         logs = logs;
         shared = flat_map shared_of in_merge;
+        failed = flat_map failed_in taken;
       }) (map_alike (λ port. lines_at port merged_lines) (λ port. lines_at port (entries_of taken))
       (λ port. lines_flat port in_merge ∙ same_lines port ∙ sym (lines_flat port items)
       ∙ ap (lines_at port) (sym (entries_shown taken))) (range_with_len 0 count))
       ∙ ap (λ (shared : List Maker). record {
         logs = map (λ port. lines_at port (entries_of taken)) (range_with_len 0 count);
         shared = shared;
-      }) (same_shared ∙ sym (shared_shown taken
-      (each_weaker (IsFit count) (λ item. ComesToPort item.event) (λ item fit. fit.comes) items
-      fits)))
+        failed = flat_map failed_in taken;
+      }) (same_shared ∙ sym (shared_shown taken all_come))
 
   merged_log : entries_of run.taken ≡ merge phases (lanes_of count taken)
   merged_log =
@@ -306,7 +338,8 @@ module _ (phases : List (List Event)) (start : Durable) (came : List Event) (tak
       (λ item. item.turn ≤ length (flat_map shared_of in_merge))
       (λ item less. omega (arith, less)) in_merge
       (turns_within count in_merge first after good merged_fits merged_runs)))
-      ∙ sym (merge_is phases (flat_map shared_of in_merge) count merged_lines)
+      ∙ sym (merge_is phases (flat_map shared_of in_merge) (flat_map failed_in taken) count
+      merged_lines)
       ∙ ap (merge phases) lanes_are
 
   merged_logs : (port : ℕ) → lines_at port (entries_of run.taken) ≡ lines_at port (entries_of taken)
@@ -329,8 +362,8 @@ module _ (phases : List (List Event)) (start : Durable) (came : List Event) (tak
       (keeps_alike (phase_from phases first) (item_phase phases) phase_is 0 phases items
       by_phase.keeps)
 
-  merged_phased : ComeInPhases phases run.events
-  merged_phased =
+  merged_in_phases : ComeInPhases phases (events_in in_merge)
+  merged_in_phases =
       subst (ComeInPhases phases)
       (ap events_in (by_number (item_phase phases) in_merge (length phases)
       (in_first_order (record { of = item_phase phases; below = 0 })
@@ -339,9 +372,65 @@ module _ (phases : List (List Event)) (start : Durable) (came : List Event) (tak
       ∷ record { of = λ item. its_port item.event; below = 0 } ∷ [])
       in_merge (ordered (item_ranks phases) items))
       (order_each (item_ranks phases) (λ item. item_phase phases item < length phases) items
-      phases_within) ∙ sym run.are)
-      ∙ events_shown run.events first run.taken after run.came)
+      phases_within)))
       (come_by_numbers count (item_phase phases) in_merge merged_fits 0 phases keeps_phases)
+
+  merged_phased : ComeInPhases phases run.events
+  merged_phased =
+      subst (ComeInPhases phases)
+      (ap events_in (sym run.are) ∙ events_shown run.events first run.taken after run.came)
+      merged_in_phases
+
+  merged_on : AllByRecursion (IsOnCard count) run.events
+  merged_on =
+      subst (AllByRecursion (IsOnCard count))
+      (ap events_in (sym run.are) ∙ events_shown run.events first run.taken after run.came)
+      (items_on count in_merge merged_fits)
+
+  -- the statements that the lanes tell
+  merged_told : AllByRecursion (IsTold count) in_merge
+  merged_told = told count in_merge first after good merged_fits merged_runs
+
+  merged_follow : EachTwo Follows in_merge
+  merged_follow = follow count in_merge first after good merged_fits merged_runs
+
+  merged_fails : AllByRecursion (λ item. is_made_by_one_of (flat_map failed_in taken)
+      (its_maker item) ≡ item.failed) in_merge
+  merged_fails =
+      order_each (item_ranks phases) (λ item. is_made_by_one_of (flat_map failed_in taken)
+      (its_maker item) ≡ item.failed) items
+      (subst (λ (failed : List Maker). AllByRecursion (λ item. is_made_by_one_of failed
+      (its_maker item) ≡ item.failed) items) (sym (failed_shown taken all_come))
+      (marked_by (λ item. item.failed) items (follow count items first after good fits runs)))
+
+  merged_numbered : AllByRecursion (λ item. event_numbered phases (its_maker item) ≡ item.event)
+      in_merge
+  merged_numbered =
+      each_weaker (IsNumbered count first (events_in in_merge))
+      (λ item. event_numbered phases (its_maker item) ≡ item.event)
+      (λ item is.
+      let fresh : (port_in first (its_port item.event)).statements ≡ 0 =
+      ap (λ (its : PortState). its.statements) (fresh_at count (its_port item.event)) in
+      let number : number_of item - 1
+      ≡ item.here.statements - (port_in first (its_port item.event)).statements =
+      omega (arith, fresh) in
+      ap (λ (n : ℕ). slice_index_or (filter (is_for (its_port item.event))
+      (flat_map (λ phase. phase) phases)) n events.Power) number
+      ∙ ap (λ (came : List Event). slice_index_or came
+      (item.here.statements - (port_in first (its_port item.event)).statements) events.Power)
+      (sym (phases_at phases (events_in in_merge) merged_in_phases (its_port item.event)))
+      ∙ is) in_merge (numbered count in_merge first after good merged_fits merged_runs)
+
+  lanes_told : steps_of phases (lanes_of count taken) ≡ map told_of run.taken
+  lanes_told =
+      ap (λ (entries : List Entry). map (λ entry. statement_told phases
+      (flat_map failed_in taken) entries (maker_of entry))
+      (telling_lines entries))
+      (sym merged_log ∙ entries_shown run.taken
+      ∙ ap (λ (its : List Shown). flat_map (λ item. item.entries) its) run.are)
+      ∙ all_told count phases (flat_map failed_in taken) in_merge merged_told merged_follow
+      merged_fails merged_numbered
+      ∙ ap (map told_item) (sym run.are) ∙ sym (told_items run.taken)
 
   pub runs_as_merged : RunsAsMerged phases first taken after
   runs_as_merged = record {
@@ -363,4 +452,10 @@ module _ (phases : List (List Event)) (start : Durable) (came : List Event) (tak
         one_quiet profile count one other its.0 also.0 its.1.comes also.1.comes may
         (so.heads may.first turn)))
         (all_show profile taken share shares)));
+    told = lanes_told;
+    alone = λ profile.
+        subst (λ (its : List Told). IsToldAlone profile first run.taken its after)
+        (sym lanes_told)
+        (told_alone first run.events run.taken after (opened_sound start are)
+        merged_on run.came run.durable profile);
   }

@@ -77,11 +77,12 @@ pub record ShowsRun (start : WorldState) (items : List Shown) (after : WorldStat
   pub taken : List Stepped
   pub came : AreSteps start events taken after
   pub are : map shown taken ≡ items
+  pub durable : AllByRecursion (λ step. IsDurable step.made.state.durable) taken
 
 pub shown_run : (items : List Shown) (start after : WorldState) → Runs start items after
     → ShowsRun start items after
 shown_run [] start after runs =
-    record { events = []; taken = []; came = (refl, runs); are = refl }
+    record { events = []; taken = []; came = (refl, runs); are = refl; durable = tt }
 shown_run (item ∷ items) start after runs =
     let rest : ShowsRun runs.0.state items after =
     shown_run items runs.0.state after runs.3 in
@@ -97,6 +98,7 @@ shown_run (item ∷ items) start after runs =
       came = (item.failed, runs.0, rest.taken, runs.1.0, rest.came, refl);
       are = ap (λ (its : Shown). its ∷ map shown rest.taken) (sym runs.2)
           ∙ ap (λ (its : List Shown). item ∷ its) rest.are;
+      durable = (runs.1.1, rest.durable);
     }
 
 -- a card on which statements may come
@@ -118,7 +120,7 @@ pub record MaySwap (one other : Shown) : Type 0 where
   pub second : other.next ≡ other.turn
   pub apart : its_port one.event ≢ its_port other.event
 
-comes_there : (event : Event) → ComesToPort event → is_for (its_port event) event ≡ true
+pub comes_there : (event : Event) → ComesToPort event → is_for (its_port event) event ≡ true
 comes_there (events.Apdu port bytes) comes = eq-eqb port port refl
 comes_there (events.Reset port) comes = eq-eqb port port refl
 comes_there (events.Load port step) comes = eq-eqb port port refl

@@ -314,7 +314,7 @@ module _ (state : WorldState) (sound : IsSoundState state) where
   happens_sound false (events.Load port step) made on is = step_sound port step made is
   happens_sound false events.Power made on is = subst StaysSound (sym is) (opened_sound state.durable)
   happens_sound true (events.Apdu port bytes) made on is =
-      subst StaysSound (sym is.4) (λ are. put_quiet port _ _ state.commits refl)
+      subst StaysSound (sym is.3) (λ are. put_quiet port _ _ state.commits refl)
   happens_sound true (events.Reset port) made on is = absurd is
   happens_sound true (events.Load port step) made on is = failed_step_sound port step made is
   happens_sound true events.Power made on is = absurd is

@@ -280,7 +280,7 @@ module _ (state : WorldState) (sound : IsSoundState state) (loads : HasSoundLoad
             (sym (fresh_at state.durable.heads.ports.count port)) tt;
       })
   happens_stays true (events.Apdu port bytes) made on small is =
-      subst Stays (sym is.4) (record { are = sound.are; its_loads = put_stays port _ (loads port) })
+      subst Stays (sym is.3) (record { are = sound.are; its_loads = put_stays port _ (loads port) })
   happens_stays true (events.Reset port) made on small is = absurd is
   happens_stays true (events.Load port step) made on small is = failed_load_stays port step made is
   happens_stays true events.Power made on small is = absurd is

@@ -1,9 +1,10 @@
 -- What any statement at a port counts, and its lines.
 use Rattle.std.proofs.Common.{◌≡◌, ◌≢◌, ◌⊎◌, ◌<◌, ◌+◌, ℕ, zero, suc, Bool, true, false, cond}
 use Rattle.std.proofs.Common.{nat_eq}
-use Rattle.std.proofs.Common.{List, [], ◌∷◌, length, Option, Some, None, Result, Ok, Err, refl, sym}
+use Rattle.std.proofs.Common.{List, [], ◌∷◌, ◌++◌, length, Option, Some, None, Result, Ok, Err, refl, sym}
 use Rattle.std.proofs.Common.{◌∙◌, ap, subst, arith, inl, inr, eqb-true, flat_map}
 use Rattle.std.proofs.lemmas.Bool.{eqb-false}
+use Rattle.std.proofs.lemmas.List.Elements.{filter-append}
 use Rattle.std.proofs.lemmas.Option.{slice_get_within}
 use Rattle.std.specs.List.{AllByRecursion}
 use Rattle.std.specs.Prelude.{slice_index_or, slice_set}
@@ -24,7 +25,7 @@ use Rattle.card_core.proofs.CardStepLemmas.{there}
 use Rattle.card_core.proofs.CarriedLemmas.{IsCarried, desk_carried}
 use Rattle.card_core.proofs.LineLemmas.{IsToldAt, ResetsBelow, away_alike, lsi_below, other_told}
 use Rattle.card_core.proofs.LineLemmas.{others_by_port, own_before, own_first, own_maker, own_then}
-use Rattle.card_core.proofs.LineLemmas.{own_told}
+use Rattle.card_core.proofs.LineLemmas.{others_quiet, own_quiet, own_tells, own_told, telling_lines}
 use Rattle.card_core.proofs.LocalLemmas.{IsOwnLine}
 use Rattle.card_core.proofs.RankLemmas.{AtMost, each_given, each_joined}
 use Rattle.card_core.proofs.RankLemmas.{each_two_given, each_weaker}
@@ -36,7 +37,7 @@ use Rattle.card_core.specs.IsdrCommand.{at_each, busy_of, came_at, is_shared_com
 use Rattle.card_core.specs.IsdrCommand.{kept_on, move_at, other_move_lines}
 use Rattle.card_core.specs.IsdrCommand.{own_move_lines, port_moved, telling_of}
 use Rattle.card_core.specs.ManageLsi.{counted_at, lsi_asked_for, lsi_made}
-use Rattle.card_core.specs.Merge.{ComesToPort, maker_of}
+use Rattle.card_core.specs.Merge.{ComesToPort, maker_of, tells_statement}
 use Rattle.card_core.specs.OwnCommand.{own_made}
 use Rattle.card_core.specs.PortState.{PortState, counted, fresh_port, reset_port}
 use Rattle.card_core.specs.Recorded.{recorded}
@@ -45,7 +46,8 @@ use Rattle.card_core.specs.Sound.{IsSoundState}
 use Rattle.card_core.specs.Failed.{FailsLoadWith}
 use Rattle.card_core.specs.Statements.{AnswersBytes, MakesLoadStep, command_made}
 use Rattle.card_core.specs.Stepped.{Happens}
-use Rattle.card_core.specs.World.{Made, WorldState, count_if, entry_at, next_maker, port_in}
+use Rattle.card_core.specs.World.{Made, WorldState, answered_line, count_if, entry_at}
+use Rattle.card_core.specs.World.{next_maker, port_in}
 use Rattle.card_core.specs.declared.entry.Entry.{Entry}
 use Rattle.card_core.specs.declared.entry.Line.{Line}
 use Rattle.card_core.specs.declared.entry.Line.TheVariants as lines
@@ -74,6 +76,7 @@ pub record IsStatementMade (port : ℕ) (state : WorldState) (made : Made) : Typ
   pub counts : (number : ℕ) → (port_in made.state number).statements
       ≡ (port_in state number).statements + count_if (nat_eq number port)
   pub shared : (made.state.shared ≡ state.shared) ⊎ (made.state.shared ≡ state.shared + 1)
+  pub tells : (one : Entry) × (telling_lines made.entries ≡ one ∷ [])
 
 -- one more statement at the port that is put
 put_counts : (ports : List PortState) (port : ℕ) (put : PortState) → port < length ports
@@ -138,6 +141,11 @@ module _ (state : WorldState) (sound : IsSoundState state) (port : ℕ)
     order = (tt, tt);
     counts = put_counts state.ports port put is_place counted;
     shared = counts;
+    tells = (
+      entry_at state port line,
+      ap (λ (tells : Bool). cond tells (entry_at state port line ∷ []) [])
+          (own_tells number line own),
+    );
   }
 
   count_either : (is_so : Bool)
@@ -165,8 +173,17 @@ module _ (state : WorldState) (sound : IsSoundState state) (port : ℕ)
         (reset_port None (port_in (counted_at state port) other)) refl
         ∙ put_counts state.ports port (counted (port_in state port)) is_place refl place;
     shared = inr refl;
+    tells = (
+      answered_line state port (status_alone OK),
+      ap (λ (its : List Entry). answered_line state port (status_alone OK) ∷ its)
+          (quiet (nat_eq other port)),
+    );
   }
     where
+      quiet : (here : Bool) → telling_lines (reset_line other here) ≡ []
+      quiet true = refl
+      quiet false = refl
+
       foreign : (here : Bool) → AllByRecursion (IsLineOf port state) (reset_line other here)
       foreign true = tt
       foreign false = (record { turn = refl; maker = refl; within = within }, tt)
@@ -346,6 +363,14 @@ module _ (state : WorldState) (sound : IsSoundState state) (port : ℕ)
           (move_at outcome.moves at) its) 0 (slice_set state.ports port put) place
           ∙ put_counts state.ports port put is_place refl place;
       shared = count_either (is_shared_command c);
+      tells = (
+        answer,
+        ap (λ (its : List Entry). answer ∷ its)
+            (filter-append (λ (entry : Entry). tells_statement entry.line) own others
+            ∙ ap (λ (its : List Entry). its ++ telling_lines others)
+            (own_quiet telling outcome.moves)
+            ∙ others_quiet telling outcome.moves),
+      );
     }
 
   command_statement : (c : Apdu) → IsStatementMade port state (command_made state port c)
@@ -404,7 +429,7 @@ statement_made state sound false (events.Load port step) made comes on is =
     step_statement state sound port on step made is
 statement_made state sound failed events.Power made comes on is = absurd comes
 statement_made state sound true (events.Apdu port bytes) made comes on is =
-    subst (IsStatementMade port state) (sym is.4)
+    subst (IsStatementMade port state) (sym is.3)
     (put_statement state sound port on _ _ _ state.commits _ refl
     (count_either state sound port on _) refl)
 statement_made state sound true (events.Reset port) made comes on is = absurd is

@@ -1,6 +1,6 @@
 -- A card that holds one profile alone, given what a whole card gives the profile.
 use Rattle.std.specs.Prelude.{ℕ, ◌≡◌, ◌≢◌, ◌⊎◌, List, [], ◌∷◌, ◌++◌, Option, Some, None}
-use Rattle.std.specs.List.{AllByRecursion, flat_map}
+use Rattle.std.specs.List.{AllByRecursion}
 use Rattle.apdu_codec.specs.declared.answers.Answer.{Answer}
 use Rattle.file_rows.specs.declared.content.Content.{Content}
 use Rattle.profile_card.specs.Card.{Card}
@@ -8,10 +8,8 @@ use Rattle.profile_card.specs.Step.{Event as CardEvent, Outcome, Steps}
 use Rattle.record_codec.specs.Heads.{held_content}
 use Rattle.card_core.specs.Port.{profile_on}
 use Rattle.card_core.specs.Share.{AreShares, Share}
-use Rattle.card_core.specs.Stepped.{AreSteps, NotFailed, Stepped}
+use Rattle.card_core.specs.Stepped.{Stepped}
 use Rattle.card_core.specs.World.{WorldState, card_in}
-use Rattle.card_core.specs.declared.entry.Entry.{Entry}
-use Rattle.card_core.specs.declared.event.Event.{Event}
 
 abbrev pub answer_list : Option Answer → List Answer
 answer_list None = []
@@ -61,12 +59,3 @@ IsAnsweredAlone profile start steps after =
     (card : Card) → StartsAlone profile start steps card
     → (share : Share) × (now : Card) × AreShares profile steps share
     × RunsAlone card share.given share.answers now × IsCardOf profile after now
-
--- a run of a card that made these lines, in which each profile is answered so
-pub record AnswersEachAlone (start : WorldState) (events : List Event) (entries : List Entry)
-    (after : WorldState) : Type 0 where
-  pub steps : List Stepped
-  pub came : AreSteps start events steps after
-  pub made : AllByRecursion NotFailed steps
-  pub lines : entries ≡ flat_map (λ step. step.made.entries) steps
-  pub alone : (profile : ℕ) → IsAnsweredAlone profile start steps after

@@ -1,7 +1,8 @@
 -- What a statement leaves for which memory was wanting or whose record wasn't stored. What the card
 -- keeps and its sessions are as before, and no other port has a line.
-use Rattle.std.specs.Prelude.{ℕ, ◌≡◌, ◌+◌, ◌&&◌, [], ◌∷◌, Option, None, option_map}
+use Rattle.std.specs.Prelude.{ℕ, ◌≡◌, ◌+◌, ◌&&◌, [], ◌∷◌, Option, Some, None, option_map}
 use Rattle.std.specs.Prelude.{if◌then◌else◌}
+use Rattle.apdu_codec.specs.Answer.{status_alone}
 use Rattle.apdu_codec.specs.Command.{Apdu, Spells}
 use Rattle.apdu_codec.specs.declared.answers.Answer.{Answer}
 use Rattle.profile_card.specs.Own.{is_common}
@@ -15,7 +16,7 @@ use Rattle.card_core.specs.World.{with_port}
 use Rattle.card_core.specs.declared.entry.Cause.{Cause}
 use Rattle.card_core.specs.declared.entry.Line.TheVariants.{Answered}
 use Rattle.card_core.specs.declared.entry.Loading.{Loading}
-use Rattle.card_core.specs.declared.entry.Loading.TheVariants.{Memory}
+use Rattle.card_core.specs.declared.entry.Loading.TheVariants.{Flash, Memory}
 use Rattle.card_core.specs.declared.event.Event.{Event}
 use Rattle.card_core.specs.declared.event.Event.TheVariants.{Apdu as Bytes, Load, Power, Reset}
 use Rattle.card_core.specs.declared.event.LoadStep.{LoadStep}
@@ -27,14 +28,19 @@ failed_port port c = record (counted port) {
   desk = if is_common port.session c then failed_desk port.desk c else port.desk;
 }
 
--- a command that is answered so; the cause stands there where its record wasn't stored
-abbrev pub failed_command : WorldState → ℕ → Apdu → Answer → Option Cause → Made
-failed_command state port c answer cause = record {
+-- `6F00` says that memory was wanting, and `6581` that the record wasn't stored for this cause
+abbrev pub failed_answer : Option Cause → Answer
+failed_answer None = status_alone (record { 0 = 0x6F00 })
+failed_answer (Some cause) = status_alone (record { 0 = 0x6581 })
+
+abbrev pub failed_command : WorldState → ℕ → Apdu → Option Cause → Made
+failed_command state port c cause = record {
   state = record (with_port state port (failed_port (port_in state port) c)) {
     shared = state.shared
         + count_if (is_common (port_in state port).session c && is_shared_command c);
   };
-  entries = entry_at state port (Answered (next_maker state port).number answer cause) ∷ [];
+  entries = entry_at state port
+      (Answered (next_maker state port).number (failed_answer cause) cause) ∷ [];
 }
 
 -- no bytes of the package are kept any more
@@ -53,22 +59,26 @@ failed_piece state port = load_step state port (record {
   outcome = Memory;
 })
 
+abbrev pub failed_load : Option Cause → Loading
+failed_load None = Memory
+failed_load (Some cause) = Flash cause
+
 -- the end of a load takes it away all the same
-abbrev pub failed_end : WorldState → ℕ → Loading → Made
-failed_end state port outcome = end_made state port (ends_with state.durable outcome)
+abbrev pub failed_end : WorldState → ℕ → Option Cause → Made
+failed_end state port cause = end_made state port (ends_with state.durable (failed_load cause))
 
 abbrev pub FailsLoadWith : WorldState → ℕ → LoadStep → Made → Type 0
 FailsLoadWith state port (Begin metadata) made = made ≡ failed_begin state port
 FailsLoadWith state port (Piece piece) made = made ≡ failed_piece state port
 FailsLoadWith state port End made =
-    (outcome : Loading) × (made ≡ failed_end state port outcome)
+    (cause : Option Cause) × (made ≡ failed_end state port cause)
 
 -- a command and a step of a load may fail; a reset and a power cycle want no memory and make no
 -- record
 abbrev pub FailsWith : WorldState → Event → Made → Type 0
 FailsWith state (Bytes port bytes) made =
-    (c : Apdu) × (answer : Answer) × (cause : Option Cause) × Spells bytes c
-    × (made ≡ failed_command state port c answer cause)
+    (c : Apdu) × (cause : Option Cause) × Spells bytes c
+    × (made ≡ failed_command state port c cause)
 FailsWith state (Reset port) made = ⊥
 FailsWith state (Load port step) made = FailsLoadWith state port step made
 FailsWith state Power made = ⊥

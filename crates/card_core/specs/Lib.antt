@@ -23,6 +23,8 @@ pub mod Statements
 pub mod Failed
 pub mod Stepped
 pub mod Share
+pub mod Told
+pub mod Fed
 pub mod Alone
 pub mod Sound
 pub mod Stretch

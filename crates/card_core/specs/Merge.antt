@@ -1,11 +1,13 @@
 -- The logs of the ports in one order: that of the phases, and in a phase that of the shared
 -- statements.
 use Rattle.std.specs.Prelude.{ℕ, ◌≡◌, ◌+◌, ◌-◌, ◌==◌, ◌&&◌, nat_le, nat_lt, Bool, if◌then◌else◌, ⊤}
-use Rattle.std.specs.Prelude.{List, [], ◌∷◌, ◌++◌, filter, length, map}
+use Rattle.std.specs.Prelude.{true, false, List, [], ◌∷◌, ◌++◌, filter, length, map, slice_index_or}
 use Rattle.std.specs.List.{AllByRecursion, flat_map, list_any, range_with_len}
+use Rattle.card_core.specs.Fed.{IsToldAlone}
 use Rattle.card_core.specs.Share.{AreShares, Share}
 use Rattle.card_core.specs.Stepped.{AreSteps, NotFailed, Stepped}
 use Rattle.card_core.specs.Stretch.{entries_of, is_for, lines_at, steps_at}
+use Rattle.card_core.specs.Told.{Told, told_of}
 use Rattle.card_core.specs.World.{WorldState, next_maker}
 use Rattle.card_core.specs.declared.entry.Entry.{Entry}
 use Rattle.card_core.specs.declared.entry.Line.{Line}
@@ -15,10 +17,11 @@ use Rattle.card_core.specs.declared.entry.Maker.{Maker}
 use Rattle.card_core.specs.declared.event.Event.{Event}
 use Rattle.card_core.specs.declared.event.Event.TheVariants.{Apdu as Bytes, Load, Power, Reset}
 
--- the logs of the ports from 0 on, and which statements were shared, one after another
+-- the logs of the ports from 0 on, and which statements were shared and which failed
 pub record Lanes : Type 0 where
   pub logs : List (List Entry)
   pub shared : List Maker
+  pub failed : List Maker
 
 -- the statement that made a line about a port
 abbrev pub maker_at : ℕ → Line → Maker
@@ -70,6 +73,35 @@ merge phases lanes =
     (0 ∷ 1 ∷ 2 ∷ [])) (range_with_len 0 (length lanes.shared + 1)))
     (range_with_len 0 (length phases))
 
+-- a line that each statement has once: its answer, its reset, or what its step of a load came to
+abbrev pub tells_statement : Line → Bool
+tells_statement (Answered number answer cause) = true
+tells_statement (OwnReset number) = true
+tells_statement (Loaded number outcome) = true
+tells_statement (ForeignReset maker) = false
+tells_statement (Unbound profile refresh kept maker commit) = false
+tells_statement (Bound profile refresh kept maker commit) = false
+
+-- the statement with this number at its port, of the phases one after another
+abbrev pub event_numbered : List (List Event) → Maker → Event
+event_numbered phases maker = slice_index_or
+    (filter (is_for maker.port) (flat_map (λ phase. phase) phases)) (maker.number - 1) Power
+
+-- what came as that statement, whether it failed, and its lines of these
+abbrev pub statement_told : List (List Event) → List Maker → List Entry → Maker → Told
+statement_told phases failed entries maker = record {
+  event = event_numbered phases maker;
+  failed = is_made_by_one_of failed maker;
+  entries = filter (λ entry. is_made_by_one_of (maker ∷ []) (maker_of entry)) entries;
+}
+
+-- the statements in the order of the merge, each beside its lines
+abbrev pub steps_of : List (List Event) → Lanes → List Told
+steps_of phases lanes =
+    let entries = merge phases lanes in
+    map (λ entry. statement_told phases lanes.failed entries (maker_of entry))
+    (filter (λ entry. tells_statement entry.line) entries)
+
 -- the statement that an event is
 abbrev pub makers_in : WorldState → Event → List Maker
 makers_in state (Bytes port bytes) = next_maker state port ∷ []
@@ -84,12 +116,23 @@ was_shared step = nat_lt step.before.shared step.made.state.shared
 abbrev pub shared_in : Stepped → List Maker
 shared_in step = if was_shared step then makers_in step.before step.event else []
 
+abbrev pub failed_in : Stepped → List Maker
+failed_in step = if step.failed then makers_in step.before step.event else []
+
 -- what a run leaves of a card with so many ports
 abbrev pub lanes_of : ℕ → List Stepped → Lanes
 lanes_of count steps = record {
   logs = map (λ port. lines_at port (entries_of steps)) (range_with_len 0 count);
   shared = flat_map shared_in steps;
+  failed = flat_map failed_in steps;
 }
+
+-- the answers that the lanes tell of each profile are those of its card alone over what the lanes
+-- feed it
+abbrev pub LanesAnswerEachAlone :
+    List (List Event) → Lanes → WorldState → List Stepped → WorldState → Type 0
+LanesAnswerEachAlone phases lanes start steps after =
+    (profile : ℕ) → IsToldAlone profile start steps (steps_of phases lanes) after
 
 abbrev pub ComesToPort : Event → Type 0
 ComesToPort (Bytes port bytes) = ⊤
@@ -109,20 +152,10 @@ ComeInPhases (phase ∷ phases) events =
     (first : List Event) × (rest : List Event) × (events ≡ first ++ rest)
     × KeepsEachPort phase first × ComeInPhases phases rest
 
--- what is told of a statement: what came, whether it failed, and its lines
-pub record Told : Type 0 where
-  pub event : Event
-  pub failed : Bool
-  pub entries : List Entry
-
-abbrev pub told_of : Stepped → Told
-told_of step =
-    record { event = step.event; failed = step.failed; entries = step.made.entries }
-
 -- a run, and the same statements made in the order of the merge: they come in the same phases and
 -- leave the same card; the log is the merge, in which each port has the log that it had; the
--- statements of each port come in the same order, and fail and are told alike; and each profile has
--- the same share
+-- statements of each port come in the same order, and fail and are told alike; each profile has
+-- the same share; and what the lanes tell of the statements is what this run tells of them
 pub record RunsAsMerged (phases : List (List Event)) (start : WorldState) (steps : List Stepped)
     (after : WorldState) : Type 0 where
   pub events : List Event
@@ -134,6 +167,10 @@ pub record RunsAsMerged (phases : List (List Event)) (start : WorldState) (steps
   pub ports : (port : ℕ) → map told_of (steps_at port merged) ≡ map told_of (steps_at port steps)
   pub shares : (profile : ℕ) (share : Share) → AreShares profile steps share
       → AreShares profile merged share
+  pub told : steps_of phases (lanes_of start.durable.heads.ports.count steps)
+      ≡ map told_of merged
+  pub alone : LanesAnswerEachAlone phases (lanes_of start.durable.heads.ports.count steps) start
+      merged after
 
 -- a run of a card that made these lines, and in whatever phases its events came, the order of the
 -- merge

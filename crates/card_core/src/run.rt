@@ -1,6 +1,6 @@
 //! The run of a card over a list of events.
 ghost use Rattle.std.specs.Prelude.{IfOk};
-ghost use Rattle.card_core.specs.Alone.{AnswersEachAlone};
+ghost use Rattle.card_core.specs.Fed.{AnswersEachAlone};
 ghost use Rattle.record_codec.specs.IsDurable.{IsDurable};
 ghost use Rattle.card_core.specs.Merge.{MayBeMerged};
 ghost use Rattle.card_core.specs.Run.{MayCome};

@@ -2,7 +2,7 @@ use Rattle.std.proofs.Common.{◌+◌, ◌++◌, ◌∷◌, [], ℕ, List, take,
 use Rattle.std.proofs.lemmas.List.{take_all}
 use Rattle.std.specs.List.{sum_by}
 use Rattle.record_codec.specs.IsDurable.{IsDurable}
-use Rattle.card_core.proofs.AloneRunLemmas.{answered_alone}
+use Rattle.card_core.proofs.AloneRunLemmas.{answered_alone, told_alone}
 use Rattle.card_core.proofs.MergeRunLemmas.{runs_as_merged}
 use Rattle.card_core.proofs.RunLemmas.{makes_one_more, next_on, next_room, next_sum, next_taken}
 use Rattle.card_core.proofs.RunLemmas.{ports_are}
@@ -108,6 +108,9 @@ returns-clause-alone c =
       made = so.made;
       lines = so.lines;
       alone = answered_alone start events so.steps (world_state world)
+          (opened_sound c.args.start.now c.requires.start) c.requires.events.ports so.came
+          so.durable;
+      told = told_alone start events so.steps (world_state world)
           (opened_sound c.args.start.now c.requires.start) c.requires.events.ports so.came
           so.durable;
     }
