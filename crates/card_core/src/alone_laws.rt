@@ -1,11 +1,13 @@
-ghost use Rattle.std.specs.Prelude.{◌≡◌, ℕ, Bool, List};
+ghost use Rattle.std.specs.Prelude.{◌≡◌, ℕ, Bool, List, map};
 ghost use Rattle.std.specs.List.{AllByRecursion};
 ghost use Rattle.profile_card.specs.Card.{Card};
 ghost use Rattle.card_core.specs.Alone.{IsAnsweredAlone, StartsAlone};
+ghost use Rattle.card_core.specs.Fed.{IsFed, IsToldAlone};
 ghost use Rattle.card_core.specs.Run.{IsOnCard};
 ghost use Rattle.card_core.specs.Share.{AreShares, Share};
 ghost use Rattle.card_core.specs.Sound.{BringsBytes, HasSoundLoads, IsSoundState};
 ghost use Rattle.card_core.specs.Stepped.{AreSteps, Happens, Stepped};
+ghost use Rattle.card_core.specs.Told.{Told, told_of};
 ghost use Rattle.card_core.specs.World.{Made, WorldState};
 ghost use Rattle.card_core.specs.declared.event.Event.{Event};
 
@@ -28,6 +30,27 @@ pub fn profiles_are_answered_as_alone()
         → AllByRecursion (IsOnCard start.durable.heads.ports.count) events
         → AllByRecursion BringsBytes events → AreSteps start events steps after
         → (profile : ℕ) → IsAnsweredAlone profile start steps after }
+{}
+
+/// What is told of the events of a run, each beside its lines, tells what a profile is given and
+/// how it is answered. The walk over it begins with the profile's card alone, and each event feeds
+/// that card, which then says where the profile stands and which bytes are its own commands. The
+/// answers that are told of those commands are that card's, whichever statements failed.
+pub fn what_is_told_tells_what_a_profile_is_given()
+    ensures given { (start : WorldState) (events : List Event) (steps : List Stepped)
+        (after : WorldState) → IsSoundState start → HasSoundLoads start
+        → AllByRecursion (IsOnCard start.durable.heads.ports.count) events
+        → AllByRecursion BringsBytes events → AreSteps start events steps after
+        → (profile : ℕ) (card : Card) (share : Share) → StartsAlone profile start steps card
+        → AreShares profile steps share
+        → IsFed profile start.durable.heads.ports.count card (map told_of steps) share }
+    ensures alone { (start : WorldState) (events : List Event) (steps : List Stepped)
+        (after : WorldState) → IsSoundState start → HasSoundLoads start
+        → AllByRecursion (IsOnCard start.durable.heads.ports.count) events
+        → AllByRecursion BringsBytes events → AreSteps start events steps after
+        → (profile : ℕ) → IsToldAlone profile start steps (map told_of steps) after }
+    ensures once { (profile ports : ℕ) (card : Card) (told : List Told) (one other : Share)
+        → IsFed profile ports card told one → IsFed profile ports card told other → one ≡ other }
 {}
 
 /// What a profile is given decides how it is answered: in two runs in which its card is the same at

@@ -32,7 +32,7 @@ mod world;
 
 pub use alone_laws::{
     cards_stay_sound_with_each_event, profiles_are_answered_as_alone,
-    what_a_profile_is_given_decides_its_answers,
+    what_a_profile_is_given_decides_its_answers, what_is_told_tells_what_a_profile_is_given,
 };
 pub use answering::IsdrAnswer;
 pub use card_laws::{
