@@ -13,7 +13,7 @@ use Rattle.card_core.specs.Share.{AreShares, IsBytesShare, IsEventShare, IsOwnSh
 use Rattle.card_core.specs.Share.{IsShareAt, Seen, Share, command_share, given_by_lines}
 use Rattle.card_core.specs.Share.{joined_share, seen_in}
 use Rattle.card_core.specs.Stepped.{Stepped}
-use Rattle.card_core.specs.Told.{Told, told_of}
+use Rattle.card_core.specs.Told.{Told, has_failed, told_of}
 use Rattle.card_core.specs.World.{WorldState}
 use Rattle.card_core.specs.declared.entry.Entry.{Entry}
 use Rattle.card_core.specs.declared.event.Event.{Event}
@@ -57,13 +57,13 @@ own_once profile seen told false one other is its =
     event_once seen told.entries profile told.event one other is its
 own_once profile seen told true one other is its = is ∙ sym its
 
-share_once : (profile : ℕ) (seen : Seen) (told : Told) (one other : Share)
-    → IsShare profile seen told one → IsShare profile seen told other → one ≡ other
-share_once profile seen told one other is its =
+share_once : (profile : ℕ) (seen : Seen) (told : Told) (failed : Bool) (one other : Share)
+    → IsShare profile seen told failed one → IsShare profile seen told failed other → one ≡ other
+share_once profile seen told failed one other is its =
     let lines : Share =
     record { given = given_by_lines profile seen told.entries; answers = [] } in
     is.2 ∙ ap (λ (share : Share). joined_share share lines)
-    (own_once profile seen told told.failed is.0 its.0 is.1 its.1) ∙ sym its.2
+    (own_once profile seen told failed is.0 its.0 is.1 its.1) ∙ sym its.2
 
 -- so does a run
 pub AreShares-once : (profile : ℕ) (taken : List Stepped) (one other : Share)
@@ -71,7 +71,7 @@ pub AreShares-once : (profile : ℕ) (taken : List Stepped) (one other : Share)
 AreShares-once profile [] one other is its = is ∙ sym its
 AreShares-once profile (step ∷ taken) one other is its =
     let first : is.0 ≡ its.0 =
-    share_once profile (seen_in step.before) (told_of step) is.0 its.0 is.2 its.2 in
+    share_once profile (seen_in step.before) (told_of step) step.failed is.0 its.0 is.2 its.2 in
     let rest : is.1 ≡ its.1 = AreShares-once profile taken is.1 its.1 is.3 its.3 in
     is.4 ∙ ap (λ (share : Share). joined_share share is.1) first
     ∙ ap (joined_share its.0) rest ∙ sym its.4
@@ -99,7 +99,8 @@ pub IsFed-once : (profile ports : ℕ) (card : Card) (told : List Told) (one oth
 IsFed-once profile ports card [] one other is its = is ∙ sym its
 IsFed-once profile ports card (first ∷ told) one other is its =
     let same : is.0 ≡ its.0 =
-    share_once profile (seen_by profile ports card) first is.0 its.0 is.4 its.4 in
+    share_once profile (seen_by profile ports card) first (has_failed first) is.0 its.0 is.4
+    its.4 in
     let next : is.3 ≡ its.3 =
     (RunsAlone-once card its.0.given is.2 its.2 is.3 its.3
     (subst (λ (share : Share). RunsAlone card share.given is.2 is.3) same is.5) its.5).1 in

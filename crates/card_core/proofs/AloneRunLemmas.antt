@@ -30,6 +30,7 @@ use Rattle.card_core.proofs.FedLemmas.{share_alike, shows_same}
 use Rattle.card_core.proofs.SoundLemmas.{happens_sound}
 use Rattle.card_core.proofs.SoundLoadLemmas.{happens_whole}
 use Rattle.card_core.proofs.StayLemmas.{heads_where}
+use Rattle.card_core.proofs.TellsFailureLemmas.{share_tells_failure}
 use Rattle.card_core.proofs.WithinLemmas.{length_each, length_fresh}
 use Rattle.card_core.specs.Alone.{InstallsWith, IsAnsweredAlone, RunsAlone, StartsAlone}
 use Rattle.card_core.specs.Desk.{desk_outcome}
@@ -45,7 +46,7 @@ use Rattle.card_core.specs.Share.{Share, joined_share, no_share, seen_in}
 use Rattle.card_core.specs.Sound.{BringsBytes, HasSoundLoads, IsSoundState}
 use Rattle.card_core.specs.Statements.{AnswersBytes, MakesLoadStep, command_made}
 use Rattle.card_core.specs.Stepped.{AreSteps, Happens, Stepped}
-use Rattle.card_core.specs.Told.{told_of}
+use Rattle.card_core.specs.Told.{has_failed, told_of}
 use Rattle.card_core.specs.World.{Made, WorldState, card_in, port_in}
 use Rattle.card_core.specs.declared.event.Event.{Event}
 use Rattle.card_core.specs.declared.event.Event.TheVariants as events
@@ -305,7 +306,9 @@ module _ (profile : ℕ) (content : Content) where
             share_alike profile (seen_in start)
                 (seen_by profile start.durable.heads.ports.count card)
                 (shows_same profile start sound.are card now.its
-                start.durable.heads.ports.count refl) (told_of first_step) first.0 first.2,
+                start.durable.heads.ports.count refl) (told_of first_step)
+                (has_failed (told_of first_step)) first.0
+                (share_tells_failure profile start sound event are.0 done are.3 first.0 first.2),
             first.3,
             subst (λ (ports : ℕ). IsFed profile ports first.1 (map told_of are.2) later.0)
                 (sym same_ports) later.5,

@@ -129,11 +129,11 @@ module _ (profile : ℕ) (one other : Seen) (same : ShowSame profile one other) 
   own_alike told true share is = is
 
   -- what is told gives the profile the same
-  pub share_alike : (told : Told) (share : Share) → IsShare profile one told share
-      → IsShare profile other told share
-  share_alike told share is = (
+  pub share_alike : (told : Told) (failed : Bool) (share : Share)
+      → IsShare profile one told failed share → IsShare profile other told failed share
+  share_alike told failed share is = (
     is.0,
-    own_alike told told.failed is.0 is.1,
+    own_alike told failed is.0 is.1,
     is.2
         ∙ ap (λ (given : List CardEvent). joined_share is.0
         (record { given = given; answers = [] })) (lines_alike told.entries),

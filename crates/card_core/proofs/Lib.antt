@@ -49,6 +49,7 @@ pub mod StepsLemmas
 pub mod StoodLemmas
 pub mod StretchLemmas
 pub mod StretchRunLemmas
+pub mod TellsFailureLemmas
 pub mod ToldLemmas
 pub mod ToldStepsLemmas
 pub mod WholeLemmas

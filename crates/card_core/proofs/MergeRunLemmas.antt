@@ -18,7 +18,7 @@ use Rattle.card_core.proofs.FollowLemmas.{told}
 use Rattle.card_core.proofs.GivesLemmas.{AllGive, OneQuiet, all_show, all_shown, one_quiet}
 use Rattle.card_core.proofs.GivesLemmas.{order_give}
 use Rattle.card_core.proofs.LineLemmas.{telling_lines}
-use Rattle.card_core.proofs.MergedLemmas.{makers_where, marked as marked_by, merge_is, turns_within}
+use Rattle.card_core.proofs.MergedLemmas.{merge_is, turns_within}
 use Rattle.card_core.proofs.PhaseLemmas.{InPhases, in_phases, phase_from}
 use Rattle.card_core.proofs.PhaseOrderLemmas.{KeepsBy, come_by_numbers, events_in, keeps_again}
 use Rattle.card_core.proofs.PhaseOrderLemmas.{keeps_alike, picked, picked_either}
@@ -36,7 +36,7 @@ use Rattle.card_core.proofs.StatementLemmas.{its_port}
 use Rattle.card_core.proofs.ToldStepsLemmas.{IsNumbered, all_told, numbered, phases_at, told_item}
 use Rattle.card_core.specs.Fed.{IsToldAlone}
 use Rattle.card_core.specs.Merge.{ComeInPhases, ComesToPort, RunsAsMerged, event_numbered}
-use Rattle.card_core.specs.Merge.{failed_in, is_made_by_one_of, lanes_of, maker_of, makers_in}
+use Rattle.card_core.specs.Merge.{lanes_of, maker_of, makers_in}
 use Rattle.card_core.specs.Merge.{merge, phase_at, shared_in, statement_told, steps_of}
 use Rattle.card_core.specs.Merge.{was_shared}
 use Rattle.card_core.specs.PortState.{PortState}
@@ -87,38 +87,48 @@ shared_shown (step ∷ taken) comes =
     marked : Bool → List Maker → List Maker
     marked here makers = cond here makers []
 
--- which statements failed
-failed_shown : (taken : List Stepped)
-    → AllByRecursion (λ item. ComesToPort item.event) (map shown taken)
-    → flat_map failed_in taken ≡ flat_map (makers_where (λ item. item.failed)) (map shown taken)
-failed_shown [] comes = refl
-failed_shown (step ∷ taken) comes =
-    ap (λ (its : List Maker). marked step.failed its ++ flat_map failed_in taken)
-    (makers_are step.before step.event comes.0)
-    ∙ ap (λ (its : List Maker). makers_where (λ item. item.failed) (shown step) ++ its)
-    (failed_shown taken comes.1)
-  where
-    marked : Bool → List Maker → List Maker
-    marked here makers = cond here makers []
-
 told_items : (taken : List Stepped) → map told_of taken ≡ map told_item (map shown taken)
 told_items [] = refl
 told_items (step ∷ taken) = ap (λ (its : List Told). told_of step ∷ its) (told_items taken)
 
-abbrev told_at : ℕ → Shown → List Told
-told_at port item = cond (is_for port item.event) (told_item item ∷ []) []
+-- what the items of a port show
+module _ {X : Type 0} (f : Shown → X) where
+  abbrev shown_at : ℕ → Shown → List X
+  shown_at port item = cond (is_for port item.event) (f item ∷ []) []
 
-told_shown : (port : ℕ) (taken : List Stepped)
-    → map told_of (steps_at port taken) ≡ flat_map (told_at port) (map shown taken)
-told_shown port [] = refl
-told_shown port (step ∷ taken) = by (is_for port step.event) (told_shown port taken)
-  where
-    by : (here : Bool)
-        → map told_of (steps_at port taken) ≡ flat_map (told_at port) (map shown taken)
-        → map told_of (cond here (step ∷ steps_at port taken) (steps_at port taken))
-        ≡ cond here (told_of step ∷ []) [] ++ flat_map (told_at port) (map shown taken)
-    by true rest = ap (λ (its : List Told). told_of step ∷ its) rest
-    by false rest = rest
+  steps_shown : (port : ℕ) (taken : List Stepped)
+      → map (λ step. f (shown step)) (steps_at port taken)
+      ≡ flat_map (shown_at port) (map shown taken)
+  steps_shown port [] = refl
+  steps_shown port (step ∷ taken) = by (is_for port step.event) (steps_shown port taken)
+    where
+      by : (here : Bool)
+          → map (λ step. f (shown step)) (steps_at port taken)
+          ≡ flat_map (shown_at port) (map shown taken)
+          → map (λ step. f (shown step))
+          (cond here (step ∷ steps_at port taken) (steps_at port taken))
+          ≡ cond here (f (shown step) ∷ []) [] ++ flat_map (shown_at port) (map shown taken)
+      by true rest = ap (λ (its : List X). f (shown step) ∷ its) rest
+      by false rest = rest
+
+  not_shown : (port : ℕ) (item : Shown) → ComesToPort item.event → its_port item.event ≢ port
+      → shown_at port item ≡ []
+  not_shown port item comes apart =
+      ap marked (comes_by port item.event comes
+      ∙ ne_eqb port (its_port item.event) (λ same. apart (sym same)))
+    where
+      marked : Bool → List X
+      marked here = cond here (f item ∷ []) []
+
+  shown_either : (port : ℕ) (one other : Shown) → ComesToPort one.event → ComesToPort other.event
+      → MaySwap one other
+      → shown_at port one ++ shown_at port other ≡ shown_at port other ++ shown_at port one
+  shown_either port one other comes also may =
+      either_order (shown_at port one) (shown_at port other)
+      (elim (one_apart port (its_port one.event) (its_port other.event) may.apart) [
+        | inl away ↦ inl (not_shown port one comes away)
+        | inr away ↦ inr (not_shown port other also away)
+      ])
 
 lines_flat : (port : ℕ) (items : List Shown)
     → lines_at port (flat_map (λ item. item.entries) items) ≡ flat_map (item_lines port) items
@@ -127,25 +137,6 @@ lines_flat port (item ∷ items) =
     filter-append (λ (entry : Entry). nat_eq entry.port port) item.entries
     (flat_map (λ item. item.entries) items)
     ∙ ap (λ (its : List Entry). item_lines port item ++ its) (lines_flat port items)
-
-not_told : (port : ℕ) (item : Shown) → ComesToPort item.event → its_port item.event ≢ port
-    → told_at port item ≡ []
-not_told port item comes apart =
-    ap marked (comes_by port item.event comes
-    ∙ ne_eqb port (its_port item.event) (λ same. apart (sym same)))
-  where
-    marked : Bool → List Told
-    marked here = cond here (told_item item ∷ []) []
-
-told_either : (port : ℕ) (one other : Shown) → ComesToPort one.event → ComesToPort other.event
-    → MaySwap one other
-    → told_at port one ++ told_at port other ≡ told_at port other ++ told_at port one
-told_either port one other comes also may =
-    either_order (told_at port one) (told_at port other)
-    (elim (one_apart port (its_port one.event) (its_port other.event) may.apart) [
-      | inl away ↦ inl (not_told port one comes away)
-      | inr away ↦ inr (not_told port other also away)
-    ])
 
 -- statements of phases come to ports
 pub come_to_ports : (phases : List (List Event)) (came : List Event) → ComeInPhases phases came
@@ -295,12 +286,18 @@ module _ (phases : List (List Event)) (start : Durable) (came : List Event) (tak
       ≡ item_lines port other ++ item_lines port one)
       (λ one other its also so may turn. lines_either one other may count port its.0 also.0))
 
-  same_told : (port : ℕ) → flat_map (told_at port) in_merge ≡ flat_map (told_at port) items
-  same_told port =
-      order_gives (item_ranks phases) (told_at port) items
-      (changing (λ one other. told_at port one ++ told_at port other
-      ≡ told_at port other ++ told_at port one)
-      (λ one other its also so may turn. told_either port one other its.1.comes also.1.comes may))
+  same_shown : {X : Type 0} (f : Shown → X) (port : ℕ)
+      → map (λ step. f (shown step)) (steps_at port run.taken)
+      ≡ map (λ step. f (shown step)) (steps_at port taken)
+  same_shown f port =
+      steps_shown f port run.taken
+      ∙ ap (λ (its : List Shown). flat_map (shown_at f port) its) run.are
+      ∙ order_gives (item_ranks phases) (shown_at f port) items
+      (changing (λ one other. shown_at f port one ++ shown_at f port other
+      ≡ shown_at f port other ++ shown_at f port one)
+      (λ one other its also so may turn.
+      shown_either f port one other its.1.comes also.1.comes may))
+      ∙ sym (steps_shown f port taken)
 
   abbrev merged_lines : List Entry
   merged_lines = flat_map (λ item. item.entries) in_merge
@@ -308,20 +305,17 @@ module _ (phases : List (List Event)) (start : Durable) (came : List Event) (tak
   lanes_are : record {
     logs = map (λ port. lines_at port merged_lines) (range_with_len 0 count);
     shared = flat_map shared_of in_merge;
-    failed = flat_map failed_in taken;
   } ≡ lanes_of count taken
   lanes_are =
       ap (λ (logs : List (List Entry)). record {
         logs = logs;
         shared = flat_map shared_of in_merge;
-        failed = flat_map failed_in taken;
       }) (map_alike (λ port. lines_at port merged_lines) (λ port. lines_at port (entries_of taken))
       (λ port. lines_flat port in_merge ∙ same_lines port ∙ sym (lines_flat port items)
       ∙ ap (lines_at port) (sym (entries_shown taken))) (range_with_len 0 count))
       ∙ ap (λ (shared : List Maker). record {
         logs = map (λ port. lines_at port (entries_of taken)) (range_with_len 0 count);
         shared = shared;
-        failed = flat_map failed_in taken;
       }) (same_shared ∙ sym (shared_shown taken all_come))
 
   merged_log : entries_of run.taken ≡ merge phases (lanes_of count taken)
@@ -338,8 +332,7 @@ module _ (phases : List (List Event)) (start : Durable) (came : List Event) (tak
       (λ item. item.turn ≤ length (flat_map shared_of in_merge))
       (λ item less. omega (arith, less)) in_merge
       (turns_within count in_merge first after good merged_fits merged_runs)))
-      ∙ sym (merge_is phases (flat_map shared_of in_merge) (flat_map failed_in taken) count
-      merged_lines)
+      ∙ sym (merge_is phases (flat_map shared_of in_merge) count merged_lines)
       ∙ ap (merge phases) lanes_are
 
   merged_logs : (port : ℕ) → lines_at port (entries_of run.taken) ≡ lines_at port (entries_of taken)
@@ -394,15 +387,6 @@ module _ (phases : List (List Event)) (start : Durable) (came : List Event) (tak
   merged_follow : EachTwo Follows in_merge
   merged_follow = follow count in_merge first after good merged_fits merged_runs
 
-  merged_fails : AllByRecursion (λ item. is_made_by_one_of (flat_map failed_in taken)
-      (its_maker item) ≡ item.failed) in_merge
-  merged_fails =
-      order_each (item_ranks phases) (λ item. is_made_by_one_of (flat_map failed_in taken)
-      (its_maker item) ≡ item.failed) items
-      (subst (λ (failed : List Maker). AllByRecursion (λ item. is_made_by_one_of failed
-      (its_maker item) ≡ item.failed) items) (sym (failed_shown taken all_come))
-      (marked_by (λ item. item.failed) items (follow count items first after good fits runs)))
-
   merged_numbered : AllByRecursion (λ item. event_numbered phases (its_maker item) ≡ item.event)
       in_merge
   merged_numbered =
@@ -423,13 +407,11 @@ module _ (phases : List (List Event)) (start : Durable) (came : List Event) (tak
 
   lanes_told : steps_of phases (lanes_of count taken) ≡ map told_of run.taken
   lanes_told =
-      ap (λ (entries : List Entry). map (λ entry. statement_told phases
-      (flat_map failed_in taken) entries (maker_of entry))
+      ap (λ (entries : List Entry). map (λ entry. statement_told phases entries (maker_of entry))
       (telling_lines entries))
       (sym merged_log ∙ entries_shown run.taken
       ∙ ap (λ (its : List Shown). flat_map (λ item. item.entries) its) run.are)
-      ∙ all_told count phases (flat_map failed_in taken) in_merge merged_told merged_follow
-      merged_fails merged_numbered
+      ∙ all_told count phases in_merge merged_told merged_follow merged_numbered
       ∙ ap (map told_item) (sym run.are) ∙ sym (told_items run.taken)
 
   pub runs_as_merged : RunsAsMerged phases first taken after
@@ -440,10 +422,8 @@ module _ (phases : List (List Event)) (start : Durable) (came : List Event) (tak
     came = run.came;
     log = merged_log;
     logs = merged_logs;
-    ports = λ port.
-        told_shown port run.taken
-        ∙ ap (λ (its : List Shown). flat_map (told_at port) its) run.are
-        ∙ same_told port ∙ sym (told_shown port taken);
+    ports = same_shown told_item;
+    failed = same_shown (λ item. item.failed);
     shares = λ profile share shares.
         all_shown profile run.taken share
         (subst (λ (its : List Shown). AllGive profile its share) (sym run.are)

@@ -78,14 +78,13 @@ mapped_alike {X} {Y} {Z} f g h alike (x ∷ xs) =
     ∙ ap (λ (its : List Z). h x ++ its) (mapped_alike f g h alike xs)
 
 -- the merge of the logs into which some lines are split is those lines, one number after another
-pub merge_is : (phases : List (List Event)) (shared failed : List Maker) (count : ℕ)
+pub merge_is : (phases : List (List Event)) (shared : List Maker) (count : ℕ)
     (entries : List Entry)
     → merge phases (record {
       logs = map (λ port. lines_at port entries) (range_with_len 0 count);
       shared = shared;
-      failed = failed;
     }) ≡ sieve (line_ranks phases shared count) entries
-merge_is phases shared failed count entries =
+merge_is phases shared count entries =
     flat_map_alike
     (λ phase. flat_map (λ turn. flat_map (λ place. flat_map
     (lines_of phases shared phase turn place) logs) (0 ∷ 1 ∷ 2 ∷ []))
@@ -183,64 +182,56 @@ same_maker port number =
     ap (λ (its : Bool). its && nat_eq number number) (eq-eqb port port refl)
     ∙ eq-eqb number number refl
 
--- the statements of the items that are picked
-abbrev pub makers_where : (Shown → Bool) → Shown → List Maker
-makers_where picks item = cond (picks item) (its_maker item ∷ []) []
+of_item : (item : Shown) (maker : Maker) (here : Bool)
+    → (nat_eq (its_port item.event) maker.port && nat_eq (number_of item) maker.number) ≡ here
+    → is_made_by_one_of (shared_of item) maker ≡ (nat_lt item.turn item.next && here)
+of_item item maker here is = by (nat_lt item.turn item.next)
+  where
+    by : (shared : Bool) → is_made_by_one_of (cond shared (its_maker item ∷ []) []) maker
+        ≡ (shared && here)
+    by true = ap (λ (its : Bool). its || false) is ∙ or_false here
+    by false = refl
 
-module _ (picks : Shown → Bool) where
-  abbrev makers_of : List Shown → List Maker
-  makers_of items = flat_map (makers_where picks) items
+none_later : (item : Shown) (items : List Shown) → AllByRecursion (Follows item) items
+    → is_made_by_one_of (flat_map shared_of items) (its_maker item) ≡ false
+none_later item [] follows = refl
+none_later item (other ∷ items) follows =
+    one_of_append (shared_of other) (flat_map shared_of items) (its_maker item)
+    ∙ ap (λ (its : Bool). its || is_made_by_one_of (flat_map shared_of items) (its_maker item))
+    (of_item other (its_maker item) false (later_apart item other follows.0)
+    ∙ and_false (nat_lt other.turn other.next))
+    ∙ none_later item items follows.1
 
-  of_item : (item : Shown) (maker : Maker) (here : Bool)
-      → (nat_eq (its_port item.event) maker.port && nat_eq (number_of item) maker.number) ≡ here
-      → is_made_by_one_of (makers_where picks item) maker ≡ (picks item && here)
-  of_item item maker here is = by (picks item)
-    where
-      by : (picked : Bool) → is_made_by_one_of (cond picked (its_maker item ∷ []) []) maker
-          ≡ (picked && here)
-      by true = ap (λ (its : Bool). its || false) is ∙ or_false here
-      by false = refl
-
-  none_later : (item : Shown) (items : List Shown) → AllByRecursion (Follows item) items
-      → is_made_by_one_of (makers_of items) (its_maker item) ≡ false
-  none_later item [] follows = refl
-  none_later item (other ∷ items) follows =
-      one_of_append (makers_where picks other) (makers_of items) (its_maker item)
-      ∙ ap (λ (its : Bool). its || is_made_by_one_of (makers_of items) (its_maker item))
-      (of_item other (its_maker item) false (later_apart item other follows.0)
-      ∙ and_false (picks other))
-      ∙ none_later item items follows.1
-
-  -- an item's statement is one of them exactly where the item is picked
-  pub marked : (items : List Shown) → EachTwo Follows items
-      → AllByRecursion (λ item. is_made_by_one_of (makers_of items) (its_maker item)
-      ≡ picks item) items
-  marked [] follows = tt
-  marked (item ∷ items) follows = (
-    one_of_append (makers_where picks item) (makers_of items) (its_maker item)
-        ∙ ap (λ (its : Bool). is_made_by_one_of (makers_where picks item) (its_maker item) || its)
-        (none_later item items follows.0)
-        ∙ ap (λ (its : Bool). its || false)
-        (of_item item (its_maker item) true (same_maker (its_port item.event) (number_of item)))
-        ∙ both_plain (picks item),
-    later items follows.0 (marked items follows.1),
-  )
-    where
-      later : (others : List Shown) → AllByRecursion (Follows item) others
-          → AllByRecursion (λ other. is_made_by_one_of (makers_of items) (its_maker other)
-          ≡ picks other) others
-          → AllByRecursion (λ other.
-          is_made_by_one_of (makers_where picks item ++ makers_of items) (its_maker other)
-          ≡ picks other) others
-      later [] its are = tt
-      later (other ∷ others) its are = (
-        one_of_append (makers_where picks item) (makers_of items) (its_maker other)
-            ∙ ap (λ (its : Bool). its || is_made_by_one_of (makers_of items) (its_maker other))
-            (of_item item (its_maker other) false (earlier_apart item other its.0)
-            ∙ and_false (picks item))
-            ∙ are.0,
-        later others its.1 are.1,
-      )
+pub marked : (items : List Shown) → EachTwo Follows items
+    → AllByRecursion (λ item. is_made_by_one_of (flat_map shared_of items) (its_maker item)
+    ≡ nat_lt item.turn item.next) items
+marked [] follows = tt
+marked (item ∷ items) follows = (
+  one_of_append (shared_of item) (flat_map shared_of items) (its_maker item)
+      ∙ ap (λ (its : Bool). is_made_by_one_of (shared_of item) (its_maker item) || its)
+      (none_later item items follows.0)
+      ∙ ap (λ (its : Bool). its || false)
+      (of_item item (its_maker item) true (same_maker (its_port item.event) (number_of item)))
+      ∙ both_plain (nat_lt item.turn item.next),
+  later items follows.0 (marked items follows.1),
+)
+  where
+    later : (others : List Shown) → AllByRecursion (Follows item) others
+        → AllByRecursion (λ other. is_made_by_one_of (flat_map shared_of items) (its_maker other)
+        ≡ nat_lt other.turn other.next) others
+        → AllByRecursion (λ other.
+        is_made_by_one_of (shared_of item ++ flat_map shared_of items) (its_maker other)
+        ≡ nat_lt other.turn other.next) others
+    later [] its are = tt
+    later (other ∷ others) its are = (
+      one_of_append (shared_of item) (flat_map shared_of items) (its_maker other)
+          ∙ ap (λ (its : Bool). its
+          || is_made_by_one_of (flat_map shared_of items) (its_maker other))
+          (of_item item (its_maker other) false (earlier_apart item other its.0)
+          ∙ and_false (nat_lt item.turn item.next))
+          ∙ are.0,
+      later others its.1 are.1,
+    )
 
 -- how many shared statements there were at each item
 module _ (count : ℕ) where

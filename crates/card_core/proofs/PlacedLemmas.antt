@@ -269,7 +269,7 @@ module _ (phases : List (List Event)) (count : ℕ) (items : List Shown)
 
   all_placed : AllByRecursion
       (λ item. AllByRecursion (IsPlaced phases count all_shared item) item.entries) items
-  all_placed = places items tells (marked (λ item. nat_lt item.turn item.next) items follows)
+  all_placed = places items tells (marked items follows)
 
   befores : (some : List Shown) → AllByRecursion (IsTold count) some → EachTwo Follows some
       → EachTwo (AtMost (item_ranks phases)) some

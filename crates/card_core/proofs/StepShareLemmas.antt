@@ -37,4 +37,5 @@ SharesOwn profile step failed share =
     IsOwnShare profile (seen_in step.before) (told_of step) failed share
 
 abbrev pub Shares : ℕ → Stepped → Share → Type 0
-Shares profile step share = IsShare profile (seen_in step.before) (told_of step) share
+Shares profile step share =
+    IsShare profile (seen_in step.before) (told_of step) step.failed share

@@ -28,7 +28,7 @@ use Rattle.card_core.specs.declared.event.Event.TheVariants as events
 
 -- what is told of an item of a port
 abbrev pub told_item : Shown → Told
-told_item item = record { event = item.event; failed = item.failed; entries = item.entries }
+told_item item = record { event = item.event; entries = item.entries }
 
 abbrev entries_in : List Shown → List Entry
 entries_in items = flat_map (λ item. item.entries) items
@@ -238,49 +238,32 @@ each_mapped f g (item ∷ items) are =
     ∙ ap (λ (its : List Told). g item ∷ its) (each_mapped f g items are.1)
 
 -- so the statements that the lines of a run tell are those of its items
-module _ (count : ℕ) (phases : List (List Event)) (failed : List Maker) (items : List Shown)
+module _ (count : ℕ) (phases : List (List Event)) (items : List Shown)
     (told : AllByRecursion (IsTold count) items) (follows : EachTwo Follows items)
-    (fails : AllByRecursion (λ item. is_made_by_one_of failed (its_maker item) ≡ item.failed)
-    items)
     (came : AllByRecursion (λ item. event_numbered phases (its_maker item) ≡ item.event) items)
   where
-    pub all_told :
-        map (λ entry. statement_told phases failed (entries_in items) (maker_of entry))
+    pub all_told : map (λ entry. statement_told phases (entries_in items) (maker_of entry))
         (telling_lines (entries_in items)) ≡ map told_item items
     all_told =
-        told_once count (statement_told phases failed (entries_in items)) items told
-        ∙ each_mapped (λ item. statement_told phases failed (entries_in items) (its_maker item))
+        told_once count (statement_told phases (entries_in items)) items told
+        ∙ each_mapped (λ item. statement_told phases (entries_in items) (its_maker item))
         told_item items
         (each_weaker Each
-        (λ item. statement_told phases failed (entries_in items) (its_maker item)
-        ≡ told_item item) same items
+        (λ item. statement_told phases (entries_in items) (its_maker item) ≡ told_item item)
+        same items
         (each_both (λ item. event_numbered phases (its_maker item) ≡ item.event)
-        (λ item. (is_made_by_one_of failed (its_maker item) ≡ item.failed)
-        × (lines_by (its_maker item) (entries_in items) ≡ item.entries)) items came
-        (each_both (λ item. is_made_by_one_of failed (its_maker item) ≡ item.failed)
-        (λ item. lines_by (its_maker item) (entries_in items) ≡ item.entries) items fails
-        (lines_again count items told follows))))
+        (λ item. lines_by (its_maker item) (entries_in items) ≡ item.entries) items came
+        (lines_again count items told follows)))
       where
         Each : Shown → Type 0
         Each item = (event_numbered phases (its_maker item) ≡ item.event)
-            × ((is_made_by_one_of failed (its_maker item) ≡ item.failed)
-            × (lines_by (its_maker item) (entries_in items) ≡ item.entries))
+            × (lines_by (its_maker item) (entries_in items) ≡ item.entries)
 
         same : (item : Shown) → Each item
-            → statement_told phases failed (entries_in items) (its_maker item) ≡ told_item item
+            → statement_told phases (entries_in items) (its_maker item) ≡ told_item item
         same item its =
             ap (λ (event : Event). record {
               event = event;
-              failed = is_made_by_one_of failed (its_maker item);
               entries = lines_by (its_maker item) (entries_in items);
             }) its.0
-            ∙ ap (λ (fails : Bool). record {
-              event = item.event;
-              failed = fails;
-              entries = lines_by (its_maker item) (entries_in items);
-            }) its.1.0
-            ∙ ap (λ (entries : List Entry). record {
-              event = item.event;
-              failed = item.failed;
-              entries = entries;
-            }) its.1.1
+            ∙ ap (λ (entries : List Entry). record { event = item.event; entries = entries }) its.1

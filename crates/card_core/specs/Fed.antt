@@ -7,7 +7,7 @@ use Rattle.card_core.specs.Alone.{IsAnsweredAlone, IsCardOf, RunsAlone, StartsAl
 use Rattle.card_core.specs.Share.{IsShare, Seen, Share, joined_share, no_share}
 use Rattle.card_core.specs.Stepped.{AreSteps, NotFailed, Stepped}
 use Rattle.card_core.specs.Stretch.{entries_of}
-use Rattle.card_core.specs.Told.{Told, told_of}
+use Rattle.card_core.specs.Told.{Told, has_failed, told_of}
 use Rattle.card_core.specs.World.{WorldState}
 use Rattle.card_core.specs.declared.entry.Entry.{Entry}
 use Rattle.card_core.specs.declared.event.Event.{Event}
@@ -28,13 +28,13 @@ seen_by profile ports card = record {
 -- The walk over what is told of statements, one after another, on a card with so many ports. It
 -- begins with the card of the profile alone, and each statement feeds that card. So the walk knows
 -- where the profile stands, by the lines that bind and unbind it, and which bytes are its own
--- commands, by the session. The share is all that the profile is fed, and the answers that are told
--- of its own commands.
+-- commands, by the session. That a statement failed its own line tells. The share is all that the
+-- profile is fed, and the answers that are told of its own commands.
 abbrev pub IsFed : ℕ → ℕ → Card → List Told → Share → Type 0
 IsFed profile ports card [] share = share ≡ no_share
 IsFed profile ports card (told ∷ rest) share =
     (first : Share) × (others : Share) × (answers : List Answer) × (next : Card)
-    × IsShare profile (seen_by profile ports card) told first
+    × IsShare profile (seen_by profile ports card) told (has_failed told) first
     × RunsAlone card first.given answers next × IsFed profile ports next rest others
     × (share ≡ joined_share first others)
 

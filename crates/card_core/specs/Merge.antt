@@ -6,7 +6,7 @@ use Rattle.std.specs.List.{AllByRecursion, flat_map, list_any, range_with_len}
 use Rattle.card_core.specs.Fed.{IsToldAlone}
 use Rattle.card_core.specs.Share.{AreShares, Share}
 use Rattle.card_core.specs.Stepped.{AreSteps, NotFailed, Stepped}
-use Rattle.card_core.specs.Stretch.{entries_of, is_for, lines_at, steps_at}
+use Rattle.card_core.specs.Stretch.{entries_of, is_for, lines_at, steps_at, which_failed}
 use Rattle.card_core.specs.Told.{Told, told_of}
 use Rattle.card_core.specs.World.{WorldState, next_maker}
 use Rattle.card_core.specs.declared.entry.Entry.{Entry}
@@ -17,11 +17,10 @@ use Rattle.card_core.specs.declared.entry.Maker.{Maker}
 use Rattle.card_core.specs.declared.event.Event.{Event}
 use Rattle.card_core.specs.declared.event.Event.TheVariants.{Apdu as Bytes, Load, Power, Reset}
 
--- the logs of the ports from 0 on, and which statements were shared and which failed
+-- the logs of the ports from 0 on, and which statements were shared, one after another
 pub record Lanes : Type 0 where
   pub logs : List (List Entry)
   pub shared : List Maker
-  pub failed : List Maker
 
 -- the statement that made a line about a port
 abbrev pub maker_at : ℕ → Line → Maker
@@ -87,11 +86,10 @@ abbrev pub event_numbered : List (List Event) → Maker → Event
 event_numbered phases maker = slice_index_or
     (filter (is_for maker.port) (flat_map (λ phase. phase) phases)) (maker.number - 1) Power
 
--- what came as that statement, whether it failed, and its lines of these
-abbrev pub statement_told : List (List Event) → List Maker → List Entry → Maker → Told
-statement_told phases failed entries maker = record {
+-- what came as that statement, and its lines of these
+abbrev pub statement_told : List (List Event) → List Entry → Maker → Told
+statement_told phases entries maker = record {
   event = event_numbered phases maker;
-  failed = is_made_by_one_of failed maker;
   entries = filter (λ entry. is_made_by_one_of (maker ∷ []) (maker_of entry)) entries;
 }
 
@@ -99,7 +97,7 @@ statement_told phases failed entries maker = record {
 abbrev pub steps_of : List (List Event) → Lanes → List Told
 steps_of phases lanes =
     let entries = merge phases lanes in
-    map (λ entry. statement_told phases lanes.failed entries (maker_of entry))
+    map (λ entry. statement_told phases entries (maker_of entry))
     (filter (λ entry. tells_statement entry.line) entries)
 
 -- the statement that an event is
@@ -116,15 +114,11 @@ was_shared step = nat_lt step.before.shared step.made.state.shared
 abbrev pub shared_in : Stepped → List Maker
 shared_in step = if was_shared step then makers_in step.before step.event else []
 
-abbrev pub failed_in : Stepped → List Maker
-failed_in step = if step.failed then makers_in step.before step.event else []
-
 -- what a run leaves of a card with so many ports
 abbrev pub lanes_of : ℕ → List Stepped → Lanes
 lanes_of count steps = record {
   logs = map (λ port. lines_at port (entries_of steps)) (range_with_len 0 count);
   shared = flat_map shared_in steps;
-  failed = flat_map failed_in steps;
 }
 
 -- the answers that the lanes tell of each profile are those of its card alone over what the lanes
@@ -165,6 +159,8 @@ pub record RunsAsMerged (phases : List (List Event)) (start : WorldState) (steps
   pub log : entries_of merged ≡ merge phases (lanes_of start.durable.heads.ports.count steps)
   pub logs : (port : ℕ) → lines_at port (entries_of merged) ≡ lines_at port (entries_of steps)
   pub ports : (port : ℕ) → map told_of (steps_at port merged) ≡ map told_of (steps_at port steps)
+  pub failed : (port : ℕ)
+      → which_failed (steps_at port merged) ≡ which_failed (steps_at port steps)
   pub shares : (profile : ℕ) (share : Share) → AreShares profile steps share
       → AreShares profile merged share
   pub told : steps_of phases (lanes_of start.durable.heads.ports.count steps)

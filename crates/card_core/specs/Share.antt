@@ -134,10 +134,11 @@ IsOwnShare profile seen told false share =
     IsEventShare profile seen told.entries told.event share
 IsOwnShare profile seen told true share = share ≡ no_share
 
--- the share of a profile in what is told: what came to its port, and then what the lines tell
-abbrev pub IsShare : ℕ → Seen → Told → Share → Type 0
-IsShare profile seen told share =
-    (own : Share) × IsOwnShare profile seen told told.failed own
+-- the share of a profile in what is told, of a statement that failed or didn't: what came to its
+-- port, and then what the lines tell
+abbrev pub IsShare : ℕ → Seen → Told → Bool → Share → Type 0
+IsShare profile seen told failed share =
+    (own : Share) × IsOwnShare profile seen told failed own
     × (share ≡ joined_share own
     (record { given = given_by_lines profile seen told.entries; answers = [] }))
 
@@ -145,5 +146,6 @@ IsShare profile seen told share =
 abbrev pub AreShares : ℕ → List Stepped → Share → Type 0
 AreShares profile [] share = share ≡ no_share
 AreShares profile (step ∷ steps) share =
-    (first : Share) × (rest : Share) × IsShare profile (seen_in step.before) (told_of step) first
+    (first : Share) × (rest : Share)
+    × IsShare profile (seen_in step.before) (told_of step) step.failed first
     × AreShares profile steps rest × (share ≡ joined_share first rest)

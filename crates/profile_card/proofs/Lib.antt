@@ -11,3 +11,6 @@ pub mod TableLemmas
 pub mod StayLemmas
 pub mod RefusedLemmas
 pub mod ReachLemmas
+pub mod FineLemmas
+pub mod FineRowLemmas
+pub mod FailingLemmas

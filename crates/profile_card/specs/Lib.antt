@@ -8,3 +8,4 @@ pub mod Step
 pub mod Tables
 pub mod Refused
 pub mod Reach
+pub mod Failing

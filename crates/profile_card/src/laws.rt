@@ -1,5 +1,5 @@
 ghost use Rattle.std.specs.Prelude.{◌≡◌, ◌≢◌, ℕ, ◌<◌, ◌≤◌, ◌^◌, Bool, true, false, List, [], ◌∷◌};
-ghost use Rattle.std.specs.Prelude.{Option, Some};
+ghost use Rattle.std.specs.Prelude.{IfSome, Option, Some};
 ghost use Rattle.apdu_codec.specs.Command.{Apdu};
 ghost use Rattle.apdu_codec.specs.Sw.{bytes_waiting, tries_left, wrong_le};
 ghost use Rattle.apdu_codec.specs.declared.answers.Answer.{Answer};
@@ -12,6 +12,7 @@ ghost use Rattle.file_rows.specs.PinRow.{is_verified};
 ghost use Rattle.file_rows.specs.declared.row.FileRow.{FileRow};
 ghost use Rattle.profile_card.specs.Card.{Card, IsSound, card_after};
 ghost use Rattle.profile_card.specs.Commands.{decision};
+ghost use Rattle.profile_card.specs.Failing.{is_failing};
 ghost use Rattle.profile_card.specs.PinCommands.{is_pin_instruction};
 ghost use Rattle.profile_card.specs.Own.{is_common};
 ghost use Rattle.profile_card.specs.Reach.{WorksOn};
@@ -96,6 +97,14 @@ pub fn verification_ends_with_the_session()
 pub fn common_commands_are_unknown_to_the_card()
     ensures { (card : Card) (c : Apdu) → is_common card.session c ≡ true
         → decision card c ≡ refused card.session Sw.WRONG_INSTRUCTION }
+{}
+
+/// A card by itself answers nothing with `6F00` or `6581`. These say that memory was wanting, or
+/// that what a command changes wasn't stored.
+pub fn no_command_fails_by_itself()
+    ensures { (card : Card) (event : Event) (outcome : Outcome) → IsSound card
+        → Steps card event outcome
+        → IfSome outcome.answer (λ answer. is_failing answer.sw ≡ false) }
 {}
 
 /// The table of instructions has just the instructions of a UICC, each with the classes that fit

@@ -15,7 +15,7 @@ pub use file_rows::NoMemory;
 pub use laws::{
     cards_stay_sound, commands_change_the_file_they_work_on, commands_have_one_run,
     commands_stay_on_their_channel, common_commands_are_unknown_to_the_card,
-    events_have_one_outcome, refused_commands_change_nothing,
+    events_have_one_outcome, no_command_fails_by_itself, refused_commands_change_nothing,
     the_table_of_instructions_has_their_classes, the_table_of_status_words_has_each,
     verification_ends_with_the_session,
 };
