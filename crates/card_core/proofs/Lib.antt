@@ -17,6 +17,7 @@ pub mod FollowLemmas
 pub mod GivenLemmas
 pub mod GivesLemmas
 pub mod InstalledLemmas
+pub mod InstallsLemmas
 pub mod KeptLemmas
 pub mod LineLemmas
 pub mod LocalLemmas

@@ -7,6 +7,7 @@ use Rattle.std.proofs.lemmas.List.Elements.{filter-append}
 use Rattle.std.specs.List.{AllByRecursion, range_with_len}
 use Rattle.std.specs.Prelude.{IfSome, slice_index_or}
 use Rattle.plain_lists.specs.EachTwo.{EachTwo}
+use Rattle.profile_card.specs.Card.{Card}
 use Rattle.record_codec.specs.IsDurable.{IsDurable}
 use Rattle.record_codec.specs.declared.durable.Durable.{Durable}
 use Rattle.card_core.proofs.ChangeLemmas.{either_order, item_lines, item_phase, item_ranks}
@@ -17,6 +18,7 @@ use Rattle.card_core.proofs.FollowLemmas.{Follows, IsTold, comes_by, follow, its
 use Rattle.card_core.proofs.FollowLemmas.{told}
 use Rattle.card_core.proofs.GivesLemmas.{AllGive, OneQuiet, all_show, all_shown, one_quiet}
 use Rattle.card_core.proofs.GivesLemmas.{order_give}
+use Rattle.card_core.proofs.InstallsLemmas.{ShowsInstall, run_shown, run_shows}
 use Rattle.card_core.proofs.LineLemmas.{telling_lines}
 use Rattle.card_core.proofs.MergedLemmas.{merge_is, turns_within}
 use Rattle.card_core.proofs.PhaseLemmas.{InPhases, in_phases, phase_from}
@@ -34,6 +36,7 @@ use Rattle.card_core.proofs.AloneRunLemmas.{told_alone}
 use Rattle.card_core.proofs.SoundLemmas.{opened_sound}
 use Rattle.card_core.proofs.StatementLemmas.{its_port}
 use Rattle.card_core.proofs.ToldStepsLemmas.{IsNumbered, all_told, numbered, phases_at, told_item}
+use Rattle.card_core.specs.Alone.{StartsAlone}
 use Rattle.card_core.specs.Fed.{IsToldAlone}
 use Rattle.card_core.specs.Merge.{ComeInPhases, ComesToPort, RunsAsMerged, event_numbered}
 use Rattle.card_core.specs.Merge.{lanes_of, maker_of, makers_in}
@@ -414,6 +417,20 @@ module _ (phases : List (List Event)) (start : Durable) (came : List Event) (tak
       ∙ all_told count phases in_merge merged_told merged_follow merged_numbered
       ∙ ap (map told_item) (sym run.are) ∙ sym (told_items run.taken)
 
+  -- a profile that the run installs comes with the same content
+  starts_alone : (profile : ℕ) (card : Card) → StartsAlone profile first taken card
+      → StartsAlone profile first run.taken card
+  starts_alone profile card alone = record {
+    its = alone.its;
+    installed = λ none.
+        run_shown count profile card.content run.events first run.taken after good
+        (come_to_ports phases run.events merged_phased) merged_on run.came run.durable
+        (subst (AllByRecursion (ShowsInstall profile card.content)) (sym run.are)
+        (order_each (item_ranks phases) (ShowsInstall profile card.content) items
+        (run_shows count profile card.content came first taken after good
+        (come_to_ports phases came come) on steps keep (alone.installed none))));
+  }
+
   pub runs_as_merged : RunsAsMerged phases first taken after
   runs_as_merged = record {
     events = run.events;
@@ -433,9 +450,9 @@ module _ (phases : List (List Event)) (start : Durable) (came : List Event) (tak
         (so.heads may.first turn)))
         (all_show profile taken share shares)));
     told = lanes_told;
-    alone = λ profile.
+    alone = λ profile card alone.
         subst (λ (its : List Told). IsToldAlone profile first run.taken its after)
         (sym lanes_told)
-        (told_alone first run.events run.taken after (opened_sound start are)
-        merged_on run.came run.durable profile);
+        (told_alone first run.events run.taken after good.sound merged_on run.came run.durable
+        profile) card (starts_alone profile card alone);
   }

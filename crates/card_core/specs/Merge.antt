@@ -149,7 +149,8 @@ ComeInPhases (phase ∷ phases) events =
 -- a run, and the same statements made in the order of the merge: they come in the same phases and
 -- leave the same card; the log is the merge, in which each port has the log that it had; the
 -- statements of each port come in the same order, and fail and are told alike; each profile has
--- the same share; and what the lanes tell of the statements is what this run tells of them
+-- the same share; what the lanes tell of the statements is what that run tells of them; and what
+-- they tell of each profile is what its card alone answers
 pub record RunsAsMerged (phases : List (List Event)) (start : WorldState) (steps : List Stepped)
     (after : WorldState) : Type 0 where
   pub events : List Event
@@ -166,7 +167,7 @@ pub record RunsAsMerged (phases : List (List Event)) (start : WorldState) (steps
   pub told : steps_of phases (lanes_of start.durable.heads.ports.count steps)
       ≡ map told_of merged
   pub alone : LanesAnswerEachAlone phases (lanes_of start.durable.heads.ports.count steps) start
-      merged after
+      steps after
 
 -- a run of a card that made these lines, and in whatever phases its events came, the order of the
 -- merge

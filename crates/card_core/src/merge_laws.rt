@@ -24,7 +24,9 @@ pub fn statements_are_told_in_order()
 /// Whatever order the statements of the ports came in, phase by phase, and whichever of them
 /// failed: their logs, merged, are the log of a run of the same statements in the order of the
 /// merge. That run leaves the same card, with its counts. Each port has the same statements in the
-/// same order, told alike, and each profile is given the same and gives the same answers.
+/// same order, told alike, and each profile is given the same and gives the same answers. The logs
+/// and the phases tell these statements, each beside its lines; the answers that they tell of each
+/// profile's own commands are those of its card alone over what they feed it.
 pub fn runs_may_be_made_in_the_order_of_their_merge()
     ensures { (phases : List (List Event)) (start : Durable) (events : List Event)
         (steps : List Stepped) (after : WorldState) → IsDurable start
