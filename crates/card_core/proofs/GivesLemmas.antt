@@ -1,29 +1,26 @@
 -- The share of a profile in a run, by what its steps show.
-use Rattle.std.proofs.Common.{◌≡◌, ◌≢◌, ◌⊎◌, ℕ, Bool, true, false, cond, nat_eq, List, [], ◌∷◌}
+use Rattle.std.proofs.Common.{◌≡◌, ◌≢◌, ◌⊎◌, ℕ, Bool, true, false, cond, List, [], ◌∷◌}
 use Rattle.std.proofs.Common.{◌++◌}
 use Rattle.std.proofs.Common.{flat_map, map, Option, Some, None, slice_index_or, refl, sym, ◌∙◌, ap}
 use Rattle.std.proofs.Common.{inl, inr}
 use Rattle.std.specs.List.{AllByRecursion}
-use Rattle.apdu_codec.specs.Command.{Apdu, Spells}
-use Rattle.lsi_refresh.specs.Lsi.{lsi_of}
 use Rattle.plain_lists.specs.EachTwo.{EachTwo}
-use Rattle.profile_card.specs.Own.{is_common}
 use Rattle.profile_card.specs.Step.{Event as CardEvent}
-use Rattle.profile_card.specs.Step.Event.{Command, Power as PowerCycle, Reset as Restart}
+use Rattle.profile_card.specs.Step.Event.{Reset as Restart}
 use Rattle.record_codec.specs.declared.durable.Heads.{Heads}
 use Rattle.card_core.proofs.AloneLemmas.{given_not}
 use Rattle.card_core.proofs.AloneStepLemmas.{here_or_not}
 use Rattle.card_core.proofs.ChangeLemmas.{one_line, ranks}
 use Rattle.card_core.proofs.FollowLemmas.{HasOneLine, IsTold, number_of}
 use Rattle.card_core.proofs.LocalLemmas.{IsOwnLine}
-use Rattle.card_core.proofs.ShownLemmas.{MaySwap, Shown, shown}
+use Rattle.card_core.proofs.ShownLemmas.{MaySwap, Shown, shown, told_item}
 use Rattle.card_core.proofs.SortLemmas.{in_order, is_before, order_each, put}
 use Rattle.card_core.proofs.StatementLemmas.{its_port}
 use Rattle.card_core.proofs.StepShareLemmas.{SharesAt, SharesEvent, SharesOwn}
 use Rattle.card_core.specs.Merge.{ComesToPort}
 use Rattle.card_core.specs.Port.{profile_on}
-use Rattle.card_core.specs.Share.{AreShares, Share, answers_in}
-use Rattle.card_core.specs.Share.{given_by_line, given_by_lsi, joined_share, no_share}
+use Rattle.card_core.specs.Share.{AreShares, IsEventShare, IsOwnShare, IsShare, IsShareAt, Seen}
+use Rattle.card_core.specs.Share.{Share, given_by_line, given_by_lines, joined_share, no_share}
 use Rattle.card_core.specs.Stepped.{Stepped}
 use Rattle.card_core.specs.World.{Made, WorldState}
 use Rattle.card_core.specs.declared.entry.Entry.{Entry}
@@ -36,50 +33,30 @@ use Rattle.card_core.specs.declared.event.Event.TheVariants as events
 abbrev stands_at : Heads → ℕ → Option ℕ
 stands_at heads port = slice_index_or heads.ports.on port None
 
-abbrev command_gives : Shown → ℕ → List ℕ → Apdu → Share
-command_gives item port bytes c =
-    cond (is_common item.here.session c)
-    (record {
-      given = cond (nat_eq c.ins 0x7A) (given_by_lsi port (lsi_of c item.heads.ports.count)) [];
-      answers = [];
-    })
-    (record { given = Command bytes ∷ []; answers = answers_in item.entries })
-
-abbrev BytesGive : Shown → ℕ → List ℕ → Share → Type 0
-BytesGive item port bytes share =
-    ((c : Apdu) × Spells bytes c × (share ≡ command_gives item port bytes c))
-    ⊎ (((c : Apdu) → ¬ Spells bytes c) × (share
-    ≡ record { given = Command bytes ∷ []; answers = answers_in item.entries }))
-
-abbrev GiveAt : ℕ → Option ℕ → Shown → ℕ → List ℕ → Share → Type 0
-GiveAt profile None item port bytes share = share ≡ no_share
-GiveAt profile (Some other) item port bytes share =
-    ((other ≡ profile) × BytesGive item port bytes share)
-    ⊎ ((other ≡ profile → ⊥) × (share ≡ no_share))
+-- what an item shows of its card
+abbrev seen_of : Shown → Seen
+seen_of item = record {
+  on = λ port. stands_at item.heads port;
+  session = λ port. item.here.session;
+  ports = item.heads.ports.count;
+}
 
 abbrev EventGives : ℕ → Shown → Event → Share → Type 0
-EventGives profile item (events.Apdu port bytes) share =
-    GiveAt profile (stands_at item.heads port) item port bytes share
-EventGives profile item (events.Reset port) share = share ≡ no_share
-EventGives profile item (events.Load port its) share = share ≡ no_share
-EventGives profile item events.Power share =
-    share ≡ record { given = PowerCycle ∷ []; answers = [] }
+EventGives profile item event share =
+    IsEventShare profile (seen_of item) item.entries event share
 
 abbrev OwnGives : ℕ → Shown → Event → Bool → Share → Type 0
-OwnGives profile item event false share = EventGives profile item event share
-OwnGives profile item event true share = share ≡ no_share
+OwnGives profile item event failed share =
+    IsOwnShare profile (seen_of item) (record { event = event; entries = item.entries }) failed
+    share
 
 abbrev lines_give : ℕ → Shown → List CardEvent
-lines_give profile item =
-    flat_map (λ entry. given_by_line profile (stands_at item.heads entry.port) entry.port
-    entry.line)
-    item.entries
+lines_give profile item = given_by_lines profile (seen_of item) item.entries
 
 -- the share of a profile in an item
 abbrev pub Gives : ℕ → Shown → Share → Type 0
 Gives profile item share =
-    (own : Share) × OwnGives profile item item.event item.failed own
-    × (share ≡ joined_share own (record { given = lines_give profile item; answers = [] }))
+    IsShare profile (seen_of item) (told_item item) item.failed share
 
 abbrev pub AllGive : ℕ → List Shown → Share → Type 0
 AllGive profile [] share = share ≡ no_share
@@ -94,12 +71,14 @@ module _ (profile : ℕ) (before : WorldState) (failed : Bool) (made : Made) (sh
 
   at_shows : (port : ℕ) (bytes : List ℕ) (on : Option ℕ)
       → SharesAt profile on (its_step (events.Apdu port bytes)) port bytes share
-      → GiveAt profile on (shown (its_step (events.Apdu port bytes))) port bytes share
+      → IsShareAt profile on (seen_of (shown (its_step (events.Apdu port bytes)))) made.entries port
+      bytes share
   at_shows port bytes None its = its
   at_shows port bytes (Some other) its = its
 
   at_shown : (port : ℕ) (bytes : List ℕ) (on : Option ℕ)
-      → GiveAt profile on (shown (its_step (events.Apdu port bytes))) port bytes share
+      → IsShareAt profile on (seen_of (shown (its_step (events.Apdu port bytes)))) made.entries port
+      bytes share
       → SharesAt profile on (its_step (events.Apdu port bytes)) port bytes share
   at_shown port bytes None its = its
   at_shown port bytes (Some other) its = its
@@ -157,7 +136,8 @@ module _ (profile : ℕ) where
 
   -- an unshared statement gives nothing to a profile that isn't on its port
   at_quiet : (item : Shown) (port : ℕ) (bytes : List ℕ) (share : Share) (on : Option ℕ)
-      → on ≢ Some profile → GiveAt profile on item port bytes share → share ≡ no_share
+      → on ≢ Some profile → IsShareAt profile on (seen_of item) item.entries port bytes share
+      → share ≡ no_share
   at_quiet item port bytes share None apart gives = gives
   at_quiet item port bytes share (Some other) apart (inl its) =
       absurd (apart (ap (λ (n : ℕ). Some n) its.0))

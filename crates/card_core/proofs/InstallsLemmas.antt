@@ -1,6 +1,7 @@
 -- A run and the same statements in the order of the merge install a profile with the same content.
 use Rattle.std.proofs.Common.{◌≡◌, ◌≢◌, ◌⊎◌, ◌<◌, ◌+◌, ℕ, Bool, true, false, cond, nat_eq, List, []}
-use Rattle.std.proofs.Common.{◌∷◌, ◌++◌, length, map, Option, Some, None, Result, Ok, Err, refl, sym}
+use Rattle.std.proofs.Common.{◌∷◌, ◌++◌, length, map, Option, Some, None, Result, Ok, Err, refl}
+use Rattle.std.proofs.Common.{sym}
 use Rattle.std.proofs.Common.{◌∙◌, ap, subst, arith, inl, inr, eqb-true}
 use Rattle.std.proofs.lemmas.Bool.{eq-eqb, eqb-false, true≢false}
 use Rattle.std.specs.List.{AllByRecursion}
@@ -32,7 +33,7 @@ use Rattle.record_codec.specs.declared.record.Record.TheVariants as records
 use Rattle.card_core.proofs.CarriedLemmas.{IsOfRequest, desk_carried}
 use Rattle.card_core.proofs.KeptLemmas.{not_next}
 use Rattle.card_core.proofs.MovedLemmas.{not_held, stands}
-use Rattle.card_core.proofs.ShownLemmas.{IsFit, IsGood, Shown, good_after, shown, shown_of}
+use Rattle.card_core.proofs.ShownLemmas.{IsGood, Shown, good_after, shown, shown_of}
 use Rattle.card_core.proofs.StatementLemmas.{its_port}
 use Rattle.card_core.proofs.StayLemmas.{held_elsewhere}
 use Rattle.card_core.specs.Alone.{InstallsWith}
@@ -221,7 +222,8 @@ module _ (profile : ℕ) (state : WorldState) (are : IsDurable state.durable) wh
         by true true = asked_away port (lsi_of c durable.heads.ports.count)
         by true false =
             by_entry
-            (desk_outcome (port_in state port).desk durable.heads (busy_of state.ports) port c).entry
+            (desk_outcome (port_in state port).desk durable.heads (busy_of state.ports) port
+            c).entry
             (desk_carried durable are (busy_of state.ports) port below
             (port_in state port).desk c).kind
         by false is_lsi =

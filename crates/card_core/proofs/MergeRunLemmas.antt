@@ -1,6 +1,7 @@
 -- A run of a section and the run of the same statements in the order of the merge.
 use Rattle.std.proofs.Common.{◌≡◌, ◌≢◌, ◌<◌, ◌≤◌, ◌+◌, ◌-◌, ℕ, Bool, true, false, cond, nat_eq}
-use Rattle.std.proofs.Common.{List, [], ◌∷◌, ◌++◌, filter, flat_map, length, map, refl, sym, ◌∙◌, ap}
+use Rattle.std.proofs.Common.{List, [], ◌∷◌, ◌++◌, filter, flat_map, length, map, refl, sym, ◌∙◌}
+use Rattle.std.proofs.Common.{ap}
 use Rattle.std.proofs.Common.{subst, arith, inl, inr}
 use Rattle.std.proofs.lemmas.Bool.{ne_eqb}
 use Rattle.std.proofs.lemmas.List.Elements.{filter-append}
@@ -29,13 +30,13 @@ use Rattle.card_core.proofs.RankLemmas.{each_both, each_joined, each_two_both, e
 use Rattle.card_core.proofs.RankLemmas.{by_number, each_weaker, in_first_order, map_alike}
 use Rattle.card_core.proofs.SeenLemmas.{fresh_at}
 use Rattle.card_core.proofs.ShownLemmas.{IsFit, IsGood, MaySwap, Runs, Shown, ShowsRun, shown}
-use Rattle.card_core.proofs.ShownLemmas.{shown_run}
+use Rattle.card_core.proofs.ShownLemmas.{shown_run, told_item}
 use Rattle.card_core.proofs.ShownLemmas.{shows}
 use Rattle.card_core.proofs.SortLemmas.{in_order, is_before, order_each, order_gives, ordered}
 use Rattle.card_core.proofs.AloneRunLemmas.{told_alone}
 use Rattle.card_core.proofs.SoundLemmas.{opened_sound}
 use Rattle.card_core.proofs.StatementLemmas.{its_port}
-use Rattle.card_core.proofs.ToldStepsLemmas.{IsNumbered, all_told, numbered, phases_at, told_item}
+use Rattle.card_core.proofs.ToldStepsLemmas.{IsNumbered, all_told, numbered, phases_at}
 use Rattle.card_core.specs.Alone.{StartsAlone}
 use Rattle.card_core.specs.Fed.{IsToldAlone}
 use Rattle.card_core.specs.Merge.{ComeInPhases, ComesToPort, RunsAsMerged, event_numbered}

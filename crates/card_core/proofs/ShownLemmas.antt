@@ -18,6 +18,7 @@ use Rattle.card_core.specs.Run.{IsOnCard}
 use Rattle.card_core.specs.Sound.{IsSoundState}
 use Rattle.card_core.specs.Stepped.{AreSteps, Happens, Stepped}
 use Rattle.card_core.specs.Stretch.{ChangePlaces, IsMadeAt, is_for}
+use Rattle.card_core.specs.Told.{Told}
 use Rattle.card_core.specs.World.{Made, WorldState, port_in}
 use Rattle.card_core.specs.declared.entry.Entry.{Entry}
 use Rattle.card_core.specs.declared.event.Event.{Event}
@@ -44,6 +45,10 @@ shown_of state event failed made = record {
   turn = state.shared;
   next = made.state.shared;
 }
+
+-- what is told of it
+abbrev pub told_item : Shown → Told
+told_item item = record { event = item.event; entries = item.entries }
 
 abbrev pub shown : Stepped → Shown
 shown step = shown_of step.before step.event step.failed step.made

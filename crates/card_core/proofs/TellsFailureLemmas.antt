@@ -6,7 +6,6 @@ use Rattle.std.specs.Prelude.{◌||◌}
 use Rattle.apdu_codec.proofs.MeaningLemmas.{Spells-once}
 use Rattle.apdu_codec.specs.Answer.{status_alone}
 use Rattle.apdu_codec.specs.Command.{Apdu, Spells, refusal}
-use Rattle.apdu_codec.specs.declared.answers.Answer.{Answer}
 use Rattle.apdu_codec.specs.declared.status.Sw.{Sw}
 use Rattle.lsi_refresh.specs.Lsi.{lsi_of}
 use Rattle.lsi_refresh.specs.declared.lsi.Lsi.{Lsi}

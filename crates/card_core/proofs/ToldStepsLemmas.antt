@@ -2,7 +2,6 @@
 use Rattle.std.proofs.Common.{◌≡◌, ◌≤◌, ◌+◌, ◌-◌, ℕ, suc, Bool, true, false, cond, nat_eq, List, []}
 use Rattle.std.proofs.Common.{◌∷◌, ◌++◌, filter, flat_map, map, refl, sym, ◌∙◌, ap, subst, arith}
 use Rattle.std.proofs.Common.{append-nil}
-use Rattle.std.proofs.lemmas.Bool.{eq-eqb}
 use Rattle.std.proofs.lemmas.List.Elements.{filter-append}
 use Rattle.std.proofs.lemmas.List.{map-append}
 use Rattle.std.specs.List.{AllByRecursion}
@@ -14,7 +13,7 @@ use Rattle.card_core.proofs.LineLemmas.{telling_lines}
 use Rattle.card_core.proofs.MergedLemmas.{earlier_apart, later_apart, same_maker}
 use Rattle.card_core.proofs.PhaseOrderLemmas.{events_in}
 use Rattle.card_core.proofs.RankLemmas.{each_both, each_filter, each_weaker}
-use Rattle.card_core.proofs.ShownLemmas.{IsFit, IsGood, Runs, Shown, comes_there}
+use Rattle.card_core.proofs.ShownLemmas.{IsFit, IsGood, Runs, Shown, comes_there, told_item}
 use Rattle.card_core.proofs.StatementLemmas.{its_port}
 use Rattle.card_core.specs.Merge.{ComeInPhases, event_numbered, is_made_by_one_of, maker_of}
 use Rattle.card_core.specs.Merge.{statement_told, tells_statement}
@@ -25,10 +24,6 @@ use Rattle.card_core.specs.declared.entry.Entry.{Entry}
 use Rattle.card_core.specs.declared.entry.Maker.{Maker}
 use Rattle.card_core.specs.declared.event.Event.{Event}
 use Rattle.card_core.specs.declared.event.Event.TheVariants as events
-
--- what is told of an item of a port
-abbrev pub told_item : Shown → Told
-told_item item = record { event = item.event; entries = item.entries }
 
 abbrev entries_in : List Shown → List Entry
 entries_in items = flat_map (λ item. item.entries) items

@@ -18,8 +18,8 @@ use std::alloc::Global;
 /// profile's own commands are answered as by a card that holds the profile alone. Where the events
 /// are the statements of phases, in any order that keeps the phases and each port's order, the logs
 /// of the ports, merged, are the log of the same statements made in the order of the merge, which
-/// leaves the same card. What a profile is given and how it is answered the events tell, each beside
-/// its lines, and so do the logs of the ports.
+/// leaves the same card. The events, each beside its lines, tell what a profile is given and how it
+/// is answered, and so do the logs of the ports.
 ///
 /// It copies what the card keeps once, and after that a content for a profile that comes to a port
 /// or is installed. No command of a card costs more for the profiles that are held beside its own.

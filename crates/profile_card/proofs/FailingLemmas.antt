@@ -1,9 +1,8 @@
 -- No command is answered by a card as one that failed.
-use Rattle.std.proofs.Common.{◌≡◌, ◌≤◌, ◌-◌, ℕ, Bool, true, false, cond, List, [], ◌∷◌, length, take}
-use Rattle.std.proofs.Common.{Option, Some, None, IfSome, Result, Ok, Err, refl, sym, ◌∙◌, ap, subst}
+use Rattle.std.proofs.Common.{◌≡◌, ◌≤◌, ◌-◌, ℕ, Bool, false, cond, List, [], ◌∷◌, length, take}
+use Rattle.std.proofs.Common.{Option, Some, None, IfSome, Result, Ok, Err, refl, sym, subst}
 use Rattle.std.proofs.Common.{arith, inl, inr}
-use Rattle.std.specs.List.{AllByRecursion}
-use Rattle.std.specs.Prelude.{◌==◌, ◌||◌, ◌&&◌, is_some, not, unwrap_or}
+use Rattle.std.specs.Prelude.{◌==◌, ◌&&◌, is_some, not, unwrap_or}
 use Rattle.std.specs.Str.{bytes_eq}
 use Rattle.access_rules.specs.Met.{pin_for}
 use Rattle.apdu_codec.specs.Class.{class_refusal, is_of_further_channel, is_secured, is_taken}
@@ -25,7 +24,7 @@ use Rattle.file_rows.specs.declared.mode.Mode.{Mode}
 use Rattle.file_rows.specs.declared.pin.PinRow.{PinRow}
 use Rattle.file_rows.specs.declared.pin.Puk.{Puk}
 use Rattle.file_rows.specs.declared.row.FileRow.{FileRow}
-use Rattle.lsi_refresh.specs.Announcement.{announced, announcing, announcing_in}
+use Rattle.lsi_refresh.specs.Announcement.{announcing_in}
 use Rattle.pin_state.specs.PinCommand.{PinCommand, outcome}
 use Rattle.pin_state.specs.PinCommand.PinCommand.{Change, Disable, Enable, Unblock, Verify}
 use Rattle.pin_state.specs.PinOutcome.{PinOutcome, at_enabled, presented, unblock_with, unblocked}
@@ -36,11 +35,11 @@ use Rattle.uicc_admin.specs.Delete.{delete_row, deleting, ef_life_refusal, is_us
 use Rattle.uicc_admin.specs.Delete.{named_to_delete}
 use Rattle.uicc_admin.specs.FileState.{changing_state, state_refusal, state_row}
 use Rattle.uicc_admin.specs.FileWork.{FileWork, at_file}
-use Rattle.uicc_admin.specs.NamedFile.{ef_in, ef_named, ef_not_there, has_no_parameters, may_name_ef}
+use Rattle.uicc_admin.specs.NamedFile.{ef_in, ef_named, ef_not_there, has_no_parameters}
+use Rattle.uicc_admin.specs.NamedFile.{may_name_ef}
 use Rattle.uicc_admin.specs.Resize.{is_within_quota, may_have_size, resize_asked, resize_row}
 use Rattle.uicc_admin.specs.Resize.{resizing, size_asked, size_refusal}
-use Rattle.uicc_channels.specs.CommandOutcome.{CommandOutcome}
-use Rattle.uicc_channels.specs.CommandRow.{CommandRow, decided}
+use Rattle.uicc_channels.specs.CommandRow.{decided}
 use Rattle.uicc_channels.specs.Needs.{Needs, needs_of, refused_unless}
 use Rattle.uicc_channels.specs.Session.{open_channel}
 use Rattle.uicc_channels.specs.declared.session.Refresh.{Refresh}
@@ -54,7 +53,7 @@ use Rattle.profile_card.specs.Card.{Card, IsSound, allowed_at, isdr_here}
 use Rattle.profile_card.specs.Commands.{command_row, decision, instruction_row, is_known_at}
 use Rattle.profile_card.specs.Commands.{unknown_row}
 use Rattle.profile_card.specs.Failing.{is_failing}
-use Rattle.profile_card.specs.PinCommands.{asks_without_body, done_where, pin_command, pin_row}
+use Rattle.profile_card.specs.PinCommands.{done_where, pin_command, pin_row}
 use Rattle.profile_card.specs.Step.{Event, Outcome, Responds, Steps, StepsAt}
 use Rattle.profile_card.specs.Step.Event.{Bound, Command, Power, Reset, Unbound}
 use Rattle.profile_card.specs.declared.pin_commands.PinInstruction.{PinInstruction}
@@ -130,7 +129,8 @@ module _ (files : List FileRow) (allowed : List ℕ → Mode → Bool) (session 
         description = fine_unless (is_some (file_asked c.body)) sws.WRONG_DATA refl;
         own = tt;
       }) session allowed sws.FILE_NOT_FOUND refl
-      (creating files session c (file_asked c.body)) fine_creating (file_at (open_channel session c.channel).dir files)
+      (creating files session c (file_asked c.body)) fine_creating
+      (file_at (open_channel session c.channel).dir files)
 
   fine_ef_life : (head : FileHead) → FineIf (ef_life_refusal head)
   fine_ef_life head = by_test FineIf (holds_files head.kind) None _ tt (fine_life head.life)

@@ -1,12 +1,12 @@
 -- Status words of which none says that a command failed, and rows of instructions that answer with
 -- such alone.
-use Rattle.std.proofs.Common.{◌≡◌, ◌≢◌, ◌≤◌, ◌<◌, ◌+◌, ◌%◌, ℕ, Bool, true, false, cond, nat_eq, List}
-use Rattle.std.proofs.Common.{[], ◌∷◌, length, Option, Some, None, IfSome, refl, sym, ◌∙◌, ap, subst}
+use Rattle.std.proofs.Common.{◌≡◌, ◌≢◌, ◌≤◌, ◌<◌, ◌+◌, ◌%◌, ℕ, Bool, true, false, cond, nat_eq}
+use Rattle.std.proofs.Common.{List}
+use Rattle.std.proofs.Common.{[], ◌∷◌, length, Option, Some, None, IfSome, refl, ◌∙◌, ap, subst}
 use Rattle.std.proofs.Common.{arith}
 use Rattle.std.proofs.lemmas.Bool.{ne_eqb}
 use Rattle.std.specs.List.{AllByRecursion}
 use Rattle.std.specs.Prelude.{◌||◌}
-use Rattle.apdu_codec.specs.Command.{Apdu}
 use Rattle.apdu_codec.specs.Sw.{bytes_waiting, tries_left, wrong_le}
 use Rattle.apdu_codec.specs.declared.answers.Answer.{Answer}
 use Rattle.apdu_codec.specs.declared.status.Sw.{Sw}
@@ -15,8 +15,7 @@ use Rattle.file_rows.specs.declared.head.Life.{Life}
 use Rattle.file_rows.specs.declared.head.Life.TheVariants as lives
 use Rattle.plain_lists.specs.FirstOf.{first_of}
 use Rattle.uicc_channels.proofs.RowLemmas.{decided-has}
-use Rattle.uicc_channels.specs.CommandOutcome.{CommandOutcome}
-use Rattle.uicc_channels.specs.CommandRow.{CommandRow, decided, refusal_of}
+use Rattle.uicc_channels.specs.CommandRow.{CommandRow, decided}
 use Rattle.uicc_channels.specs.Delivery.{answered, le_refusal, takes}
 use Rattle.uicc_channels.specs.Life.{life_refusal}
 use Rattle.uicc_channels.specs.Needs.{Needs, refusals, refused_unless}

@@ -1,11 +1,9 @@
--- The rows of SELECT, STATUS, the commands on data, those on channels and those of a terminal answer
--- with status words of which none says that the command failed.
-use Rattle.std.proofs.Common.{◌≡◌, ◌-◌, ◌+◌, ℕ, Bool, true, false, cond, nat_eq, nat_le, nat_lt, List}
+-- The rows of SELECT, STATUS, the commands on data, those on channels and those of a terminal
+-- answer with status words of which none says that the command failed.
+use Rattle.std.proofs.Common.{◌-◌, ◌+◌, ℕ, Bool, nat_le, nat_lt, List}
 use Rattle.std.proofs.Common.{[], ◌∷◌, ◌++◌, length, drop, Option, Some, None, refl}
 use Rattle.std.specs.Prelude.{◌==◌, ◌||◌, ◌&&◌, option_and_then, is_some, unwrap_or}
 use Rattle.apdu_codec.specs.Command.{Apdu}
-use Rattle.apdu_codec.specs.Sw.{bytes_waiting, wrong_le}
-use Rattle.apdu_codec.specs.declared.answers.Answer.{Answer}
 use Rattle.apdu_codec.specs.declared.status.Sw.{Sw}
 use Rattle.apdu_codec.specs.declared.status.TheConstants.Sw as sws
 use Rattle.file_rows.specs.declared.head.Life.{Life}
@@ -22,8 +20,8 @@ use Rattle.uicc_channels.specs.CommandOutcome.{CommandOutcome}
 use Rattle.uicc_channels.specs.CommandRow.{CommandRow}
 use Rattle.uicc_channels.specs.Delivery.{delivered, le_refusal}
 use Rattle.uicc_channels.specs.GetResponse.{get_response_row, giving_refusal, rest_status}
-use Rattle.uicc_channels.specs.ManageChannel.{closing, is_opening, lowest_closed}
-use Rattle.uicc_channels.specs.ManageChannel.{manage_channel_row, opening, opening_refusal}
+use Rattle.uicc_channels.specs.ManageChannel.{is_opening, lowest_closed}
+use Rattle.uicc_channels.specs.ManageChannel.{manage_channel_row, opening_refusal}
 use Rattle.uicc_channels.specs.Needs.{Needs, refused_unless}
 use Rattle.uicc_channels.specs.Session.{channel_at, open_channel}
 use Rattle.uicc_channels.specs.declared.session.Session.{Session}
@@ -46,7 +44,7 @@ use Rattle.uicc_data.specs.declared.reference.FileReference.{FileReference}
 use Rattle.uicc_data.specs.declared.reference.FileReference.TheVariants as references
 use Rattle.uicc_select.specs.Find.{found}
 use Rattle.uicc_select.specs.Select.{Selection, answered_if_some, names_isdr, parameters_for}
-use Rattle.uicc_select.specs.Select.{select_row, selected_status, selecting, selecting_isdr}
+use Rattle.uicc_select.specs.Select.{select_row, selected_status}
 use Rattle.uicc_select.specs.Select.{selection_of, selection_of_file}
 use Rattle.uicc_select.specs.Status.{name_of_application, parameters_of_directory, status_row}
 use Rattle.uicc_select.specs.Target.{target_of}
@@ -218,7 +216,8 @@ module _ (rows : List FileRow) (allowed : List ℕ → Mode → Bool) (session :
   fine_read body offset le =
       by_test FineIf (nat_le (length body) offset) _ _ refl
       (by_test FineIf (le == 256) None _ tt
-      (by_test FineIf (nat_lt (length body - offset) le) _ None (fine_le (length body - offset)) tt))
+      (by_test FineIf (nat_lt (length body - offset) le) _ None (fine_le (length body - offset))
+      tt))
 
   fine_write : (body : List ℕ) (offset : ℕ) (bytes : List ℕ)
       → FineIf (write_refusal body offset bytes)

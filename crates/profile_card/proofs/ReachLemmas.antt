@@ -9,7 +9,6 @@ use Rattle.apdu_codec.specs.declared.status.Sw.{Sw}
 use Rattle.access_rules.specs.Met.{pin_for}
 use Rattle.file_rows.proofs.ChangeLemmas.{others}
 use Rattle.file_rows.specs.Content.{file_at}
-use Rattle.file_rows.specs.PinRow.{is_verified}
 use Rattle.file_rows.specs.declared.change.Change.{Change}
 use Rattle.file_rows.specs.declared.change.Change.TheVariants.{WriteRange, WriteRecord, PinSet}
 use Rattle.file_rows.specs.declared.change.Change.TheVariants.{FileAdd, FileGone, FileState}
@@ -22,30 +21,24 @@ use Rattle.lsi_refresh.specs.TerminalProfile.{terminal_profile_row}
 use Rattle.lsi_refresh.specs.TerminalResponse.{terminal_response_row}
 use Rattle.pin_state.specs.PinCommand.{PinCommand, outcome}
 use Rattle.uicc_admin.proofs.ReachLemmas.{spares-administration}
-use Rattle.uicc_admin.specs.Administration.{admin_row, is_administration}
+use Rattle.uicc_admin.specs.Administration.{is_administration}
 use Rattle.uicc_channels.proofs.ChannelLemmas.{opening-alone}
 use Rattle.uicc_channels.proofs.ManageLemmas.{manage-has}
 use Rattle.uicc_channels.proofs.ResponseLemmas.{response-has}
 use Rattle.uicc_channels.proofs.RowLemmas.{decided-has}
 use Rattle.uicc_channels.specs.CarriesOut.{content_after}
-use Rattle.uicc_channels.specs.ChannelLaws.{ChangesChannelsAlone}
 use Rattle.uicc_channels.specs.CommandOutcome.{CommandOutcome, refused}
 use Rattle.uicc_channels.specs.CommandRow.{CommandRow, decided}
-use Rattle.uicc_channels.specs.GetResponse.{get_response_row}
 use Rattle.uicc_channels.specs.ManageChannel.{manage_channel_row, opening}
 use Rattle.uicc_channels.specs.Session.{open_channel}
 use Rattle.uicc_data.proofs.DoneLemmas.{local-increase, local-update_binary, local-update_record}
 use Rattle.uicc_data.proofs.OutcomeLemmas.{read_binary-has, read_record-has, search_record-has}
-use Rattle.uicc_data.specs.Binary.{read_binary_row, update_binary_row}
-use Rattle.uicc_data.specs.Increase.{increase_row}
-use Rattle.uicc_data.specs.Record.{read_record_row, update_record_row}
-use Rattle.uicc_data.specs.Search.{search_record_row}
 use Rattle.uicc_data.specs.WorksOn.{WritesWhereItWorks}
 use Rattle.uicc_select.proofs.SelectionLemmas.{change-select_row, change-status_row}
 use Rattle.uicc_select.specs.Select.{select_row}
 use Rattle.uicc_select.specs.Status.{status_row}
 use Rattle.profile_card.specs.Card.{Card, IsSound, allowed_at, card_after, isdr_here}
-use Rattle.profile_card.specs.Commands.{command_row, decision, instruction_row, is_known_at}
+use Rattle.profile_card.specs.Commands.{decision, instruction_row, is_known_at}
 use Rattle.profile_card.specs.Commands.{unknown_row}
 use Rattle.profile_card.specs.PinCommands.{done_where, pin_command, pin_row}
 use Rattle.profile_card.specs.Reach.{WorksOn}

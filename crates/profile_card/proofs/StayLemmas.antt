@@ -1,5 +1,5 @@
 -- What a command leaves of the session.
-use Rattle.std.proofs.Common.{◌≡◌, ◌≢◌, ℕ, Bool, true, false, cond, List, refl, ap, Option, Some}
+use Rattle.std.proofs.Common.{◌≡◌, ◌≢◌, Bool, true, false, cond, List, refl, ap, Option, Some}
 use Rattle.std.proofs.Common.{None}
 use Rattle.std.proofs.lemmas.Bool.{eqb-true}
 use Rattle.std.specs.Prelude.{◌==◌, slice_index_or}
@@ -18,7 +18,7 @@ use Rattle.uicc_channels.specs.ChannelLaws.{LeavesOthers}
 use Rattle.uicc_channels.specs.CommandOutcome.{CommandOutcome}
 use Rattle.uicc_channels.specs.CommandRow.{CommandRow, decided}
 use Rattle.uicc_channels.specs.GetResponse.{get_response_row}
-use Rattle.uicc_channels.specs.Session.{channel_at, open_channel}
+use Rattle.uicc_channels.specs.Session.{open_channel}
 use Rattle.uicc_channels.specs.declared.chan.Chan.{Chan}
 use Rattle.uicc_channels.specs.declared.session.Session.{Session}
 use Rattle.uicc_data.proofs.DoneLemmas.{others-increase, others-read_binary, others-read_record}
@@ -26,7 +26,7 @@ use Rattle.uicc_data.proofs.DoneLemmas.{others-search_record, others-update_bina
 use Rattle.uicc_data.proofs.DoneLemmas.{others-update_record}
 use Rattle.uicc_select.proofs.LocalLemmas.{stays-select, stays-status}
 use Rattle.profile_card.specs.Card.{Card, allowed_at, isdr_here}
-use Rattle.profile_card.specs.Commands.{command_row, decision, instruction_row, is_known_at}
+use Rattle.profile_card.specs.Commands.{decision, instruction_row, is_known_at}
 use Rattle.profile_card.specs.Commands.{unknown_row}
 use Rattle.profile_card.specs.PinCommands.{done_where, pin_command, pin_row}
 use Rattle.profile_card.specs.declared.pin_commands.PinInstruction.{PinInstruction}
