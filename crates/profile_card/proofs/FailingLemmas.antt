@@ -46,7 +46,7 @@ use Rattle.uicc_channels.specs.declared.session.Refresh.{Refresh}
 use Rattle.uicc_channels.specs.declared.session.Refresh.TheVariants as refreshes
 use Rattle.uicc_channels.specs.declared.session.Session.{Session}
 use Rattle.profile_card.proofs.FineLemmas.{Fine, FineIf, FineNeeds, FineRow, by_test, fine_decided}
-use Rattle.profile_card.proofs.FineLemmas.{fine_life, fine_tries, fine_unless}
+use Rattle.profile_card.proofs.FineLemmas.{fine_life, fine_missing, fine_tries, fine_unless}
 use Rattle.profile_card.proofs.FineRowLemmas as rows
 use Rattle.profile_card.proofs.PinCommandLemmas.{IsPin-found, are_pins}
 use Rattle.profile_card.specs.Card.{Card, IsSound, allowed_at, isdr_here}
@@ -69,16 +69,8 @@ fine_at_file : (needs : Needs) → FineNeeds needs → (session : Session)
     (allowed : List ℕ → Mode → Bool) (sw : Sw) → Fine sw → (work : FileRow → FileWork)
     → ((row : FileRow) → FineWork (work row)) → (row : Option FileRow)
     → FineRow (at_file needs session allowed sw work row)
-fine_at_file needs fine session allowed sw there work each None = record {
-  needs = record {
-    template = fine.template;
-    file = there;
-    life = fine.life;
-    description = fine.description;
-    own = fine.own;
-  };
-  done = refl;
-}
+fine_at_file needs fine session allowed sw there work each None =
+    record { needs = fine_missing needs fine sw there; done = refl }
 fine_at_file needs fine session allowed sw there work each (Some row) = record {
   needs = record {
     template = fine.template;

@@ -92,6 +92,17 @@ pub record FineNeeds (needs : Needs) : Type 0 where
   pub description : FineIf needs.description
   pub own : FineIf needs.own
 
+-- a file that isn't there
+pub fine_missing : (needs : Needs) → FineNeeds needs → (sw : Sw) → Fine sw
+    → FineNeeds (record needs { file = Some sw })
+fine_missing needs fine sw missing = record {
+  template = fine.template;
+  file = missing;
+  life = fine.life;
+  description = fine.description;
+  own = fine.own;
+}
+
 pub record FineRow (row : CommandRow) : Type 0 where
   pub needs : FineNeeds row.needs
   pub done : Fine row.done.answer.sw

@@ -51,7 +51,7 @@ use Rattle.uicc_select.specs.Target.{target_of}
 use Rattle.uicc_select.specs.declared.naming.Target.{Target}
 use Rattle.profile_card.proofs.FineLemmas.{Fine, FineIf, FineNeeds, FineRow, by_test, fine_answered}
 use Rattle.profile_card.proofs.FineLemmas.{fine_first, fine_le, fine_le_refusal, fine_life}
-use Rattle.profile_card.proofs.FineLemmas.{fine_unless, fine_waiting}
+use Rattle.profile_card.proofs.FineLemmas.{fine_missing, fine_unless, fine_waiting}
 
 abbrev FineDone : CommandOutcome → Type 0
 FineDone done = Fine done.answer.sw
@@ -153,16 +153,8 @@ module _ (needs : Needs) (fine : FineNeeds needs) (session : Session) where
   fine_on_file : (allowed : List ℕ → Mode → Bool) (sw : Sw) → Fine sw → (usage : FileRow → FileUse)
       → ((row : FileRow) → FineUse (usage row)) → (row : Option FileRow)
       → FineRow (on_file needs session allowed sw usage row)
-  fine_on_file allowed sw there usage each None = record {
-    needs = record {
-      template = fine.template;
-      file = there;
-      life = fine.life;
-      description = fine.description;
-      own = fine.own;
-    };
-    done = refl;
-  }
+  fine_on_file allowed sw there usage each None =
+      record { needs = fine_missing needs fine sw there; done = refl }
   fine_on_file allowed sw there usage each (Some row) = record {
     needs = record {
       template = fine.template;
