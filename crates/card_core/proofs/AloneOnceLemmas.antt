@@ -8,7 +8,7 @@ use Rattle.profile_card.proofs.RunLemmas.{Steps-once}
 use Rattle.profile_card.specs.Card.{Card}
 use Rattle.profile_card.specs.Step.{Event as CardEvent, Outcome}
 use Rattle.card_core.specs.Alone.{IsAnsweredAlone, RunsAlone, StartsAlone, answer_list}
-use Rattle.card_core.specs.Fed.{IsFed, seen_by}
+use Rattle.card_core.specs.Fed.{IsFed, IsToldAlone, seen_by}
 use Rattle.card_core.specs.Share.{AreShares, IsBytesShare, IsEventShare, IsOwnShare, IsShare}
 use Rattle.card_core.specs.Share.{IsShareAt, Seen, Share, command_share, given_by_lines}
 use Rattle.card_core.specs.Share.{joined_share, seen_in}
@@ -111,25 +111,44 @@ IsFed-once profile ports card (first ∷ told) one other is its =
     ∙ ap (joined_share its.0) rest ∙ sym its.7
 
 -- so the same things given to the same card are answered alike in any two runs
+given_alike : (card : Card) (share its : Share) (now another : Card)
+    → RunsAlone card share.given share.answers now
+    → RunsAlone card its.given its.answers another → share.given ≡ its.given
+    → share.answers ≡ its.answers
+given_alike card share its now another runs its_runs same =
+    (RunsAlone-once card its.given share.answers its.answers now another
+    (subst (λ (given : List CardEvent). RunsAlone card given share.answers now) same runs)
+    its_runs).0
+
 module _ (profile : ℕ) (start other : WorldState) (taken others : List Stepped)
     (after another : WorldState) (card : Card) (share its : Share)
-    (alone : IsAnsweredAlone profile start taken after)
-    (its_alone : IsAnsweredAlone profile other others another)
     (starts : StartsAlone profile start taken card)
-    (its_starts : StartsAlone profile other others card)
-    (are : AreShares profile taken share) (its_are : AreShares profile others its) where
-  pub answers_alike : share.given ≡ its.given → share.answers ≡ its.answers
-  answers_alike same =
+    (its_starts : StartsAlone profile other others card) where
+  pub answers_alike : IsAnsweredAlone profile start taken after
+      → IsAnsweredAlone profile other others another → AreShares profile taken share
+      → AreShares profile others its → share.given ≡ its.given → share.answers ≡ its.answers
+  answers_alike alone its_alone are its_are =
       let runs = alone card starts in
       let its_runs = its_alone card its_starts in
-      let is : runs.0 ≡ share = AreShares-once profile taken runs.0 share runs.2 are in
-      let its_is : its_runs.0 ≡ its =
-      AreShares-once profile others its_runs.0 its its_runs.2 its_are in
-      let run : RunsAlone card share.given share.answers runs.1 =
-      subst (λ (one : Share). RunsAlone card one.given one.answers runs.1) is runs.3 in
-      let its_run : RunsAlone card its.given its.answers its_runs.1 =
-      subst (λ (one : Share). RunsAlone card one.given one.answers its_runs.1) its_is
-      its_runs.3 in
-      (RunsAlone-once card its.given share.answers its.answers runs.1 its_runs.1
-      (subst (λ (given : List CardEvent). RunsAlone card given share.answers runs.1) same run)
-      its_run).0
+      given_alike card share its runs.1 its_runs.1
+      (subst (λ (one : Share). RunsAlone card one.given one.answers runs.1)
+      (AreShares-once profile taken runs.0 share runs.2 are) runs.3)
+      (subst (λ (one : Share). RunsAlone card one.given one.answers its_runs.1)
+      (AreShares-once profile others its_runs.0 its its_runs.2 its_are) its_runs.3)
+
+  -- also by what is told of them
+  pub told_alike : (told its_told : List Told) → IsToldAlone profile start taken told after
+      → IsToldAlone profile other others its_told another
+      → IsFed profile start.durable.heads.ports.count card told share
+      → IsFed profile other.durable.heads.ports.count card its_told its
+      → share.given ≡ its.given → share.answers ≡ its.answers
+  told_alike told its_told alone its_alone fed its_fed =
+      let runs = alone card starts in
+      let its_runs = its_alone card its_starts in
+      given_alike card share its runs.1 its_runs.1
+      (subst (λ (one : Share). RunsAlone card one.given one.answers runs.1)
+      (IsFed-once profile start.durable.heads.ports.count card told runs.0 share runs.2 fed)
+      runs.3)
+      (subst (λ (one : Share). RunsAlone card one.given one.answers its_runs.1)
+      (IsFed-once profile other.durable.heads.ports.count card its_told its_runs.0 its its_runs.2
+      its_fed) its_runs.3)

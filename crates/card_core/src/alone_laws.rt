@@ -55,7 +55,7 @@ pub fn what_is_told_tells_what_a_profile_is_given()
 
 /// What a profile is given decides how it is answered: in two runs in which its card is the same at
 /// the start and is given the same, it gives the same answers, whatever else came to the two cards.
-/// A run gives a profile one share.
+/// So it is by what is told of the two. A run gives a profile one share.
 pub fn what_a_profile_is_given_decides_its_answers()
     ensures alike { (profile : ℕ) (start other : WorldState) (steps others : List Stepped)
         (after another : WorldState) (card : Card) (share its : Share)
@@ -63,6 +63,14 @@ pub fn what_a_profile_is_given_decides_its_answers()
         → IsAnsweredAlone profile other others another
         → StartsAlone profile start steps card → StartsAlone profile other others card
         → AreShares profile steps share → AreShares profile others its
+        → share.given ≡ its.given → share.answers ≡ its.answers }
+    ensures told { (profile : ℕ) (start other : WorldState) (steps others : List Stepped)
+        (after another : WorldState) (told its_told : List Told) (card : Card) (share its : Share)
+        → IsToldAlone profile start steps told after
+        → IsToldAlone profile other others its_told another
+        → StartsAlone profile start steps card → StartsAlone profile other others card
+        → IsFed profile start.durable.heads.ports.count card told share
+        → IsFed profile other.durable.heads.ports.count card its_told its
         → share.given ≡ its.given → share.answers ≡ its.answers }
     ensures once { (profile : ℕ) (steps : List Stepped) (one other : Share)
         → AreShares profile steps one → AreShares profile steps other → one ≡ other }
