@@ -378,6 +378,7 @@ fn the_laws_are_callable() {
     commands_stay_on_their_channel();
     common_commands_are_unknown_to_the_card();
     events_have_one_outcome();
+    no_command_fails_by_itself();
     refused_commands_change_nothing();
     the_table_of_instructions_has_their_classes();
     the_table_of_status_words_has_each();
