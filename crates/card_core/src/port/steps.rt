@@ -9,11 +9,10 @@ ghost use Rattle.profile_card.specs.CardState.{HasRoomFor, TakesRoom, card_of, c
 ghost use Rattle.profile_card.specs.Commands.{decision};
 ghost use Rattle.card_core.specs.AtPort.{port_state};
 ghost use Rattle.card_core.specs.Carried.{SendsWhatIsLeft, decided_outcome, exchange_after};
-ghost use Rattle.card_core.specs.Desk.{TakesBlock, desk_outcome, exchange_at};
-ghost use Rattle.card_core.specs.DeskOutcome.{DeskOutcome};
+ghost use Rattle.card_core.specs.Desk.{TakesBlock, desk_outcome, desk_with, exchange_at};
 ghost use Rattle.card_core.specs.Failed.{failed_port};
-ghost use Rattle.card_core.specs.IsdrCommand.{came_at};
 ghost use Rattle.card_core.specs.OwnCommand.{port_after};
+ghost use Rattle.card_core.specs.PortState.{counted};
 
 use super::Port;
 use crate::{DeskDecision, ExchangeChange, NoMemory};
@@ -109,11 +108,11 @@ impl Port {
         requires count { self.old.statements + 1 < 2 ^ 32 }
         requires command { IsCommand command.now }
         requires fits { SendsWhatIsLeft (exchange_at self.old.desk command.now.channel) change }
-        ensures state { (outcome : DeskOutcome) → outcome.moves ≡ moves.now
-            → outcome.exchange
-            ≡ exchange_after (exchange_at self.old.desk command.now.channel) change
-            → port_state self.new
-            ≡ came_at port command.now.channel outcome (port_state self.old) }
+        ensures state { let exchange = exchange_after
+            (exchange_at self.old.desk command.now.channel) change in
+            port_state self.new ≡ record (counted (port_state self.old)) {
+              desk = desk_with self.old.desk port command.now.channel moves.now exchange;
+            } }
         ensures card { self.new.card ≡ self.old.card }
         ensures session { self.new.session ≡ self.old.session }
     {

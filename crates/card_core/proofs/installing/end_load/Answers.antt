@@ -1,4 +1,4 @@
-use Rattle.std.proofs.Common.{true, Option, refl, subst, sym}
+use Rattle.std.proofs.Common.{true, refl, subst, sym}
 use Rattle.record_codec.specs.declared.durable.Durable.{Durable}
 use Rattle.card_core.specs.EndDecision.{DecidesEnd}
 use Rattle.card_core.specs.Load.{EndsLoad}
