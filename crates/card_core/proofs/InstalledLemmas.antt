@@ -24,6 +24,7 @@ use Rattle.record_codec.specs.Noted.{count_of}
 use Rattle.record_codec.specs.declared.durable.Durable.{Durable}
 use Rattle.record_codec.specs.declared.durable.Heads.{Heads}
 use Rattle.record_codec.specs.declared.profile.ProfileHead.{ProfileHead}
+use Rattle.record_codec.specs.declared.record.Record.{Record}
 use Rattle.record_codec.specs.declared.record.Record.TheVariants as records
 use Rattle.port_table.specs.declared.ports.Ports.{Ports}
 use Rattle.card_core.proofs.KeptLemmas.{not_next}
@@ -71,6 +72,23 @@ installed_fits durable head content are good valid none =
       few = good.few;
       addresses = good.addresses;
     }) valid refl none
+
+-- so may it be on each card with the same heads
+pub install_fits : (heads : Heads) (head : ProfileHead) (content : Content) (entry : Record)
+    → entry ≡ records.PutProfile true (record {
+      head = record head { number = heads.next_number };
+      content = content;
+    }) None
+    → install_refusal heads head ≡ None → IsHead head → IsValid content
+    → (durable : Durable) → IsDurable durable → durable.heads ≡ heads → FitsCard durable entry
+install_fits heads head content entry made none good valid durable are same =
+    subst (λ (its : Heads). entry ≡ records.PutProfile true (record {
+      head = record head { number = its.next_number };
+      content = content;
+    }) None
+    → install_refusal its head ≡ None → FitsCard durable entry) same
+    (λ made none. subst (FitsCard durable) (sym made)
+    (installed_fits durable head content are good valid none)) made none
 
 module _ (durable : Durable) (are : IsDurable durable) where
   -- an installation changes no port and no content at one

@@ -16,6 +16,7 @@ pub mod OwnCommand
 pub mod PortReset
 pub mod ManageLsi
 pub mod IsdrCommand
+pub mod EndDecision
 pub mod Load
 pub mod LoadState
 pub mod Run

@@ -1,19 +1,30 @@
-// The end of a load, which installs a profile.
-ghost use Rattle.std.specs.Prelude.{◌≡◌, None, IfOk, OnOk, false, true};
+//! The end of a load, which installs a profile.
+ghost use Rattle.std.specs.Prelude.{◌≡◌, ℕ, None, true, IfOk, IfSome, IsSome, OnErr, OnOk};
 ghost use Rattle.file_rows.specs.Content.{IsValid};
 ghost use Rattle.isdr_commands.specs.Installation.{install_refusal};
-ghost use Rattle.record_codec.specs.Apply.{apply};
+ghost use Rattle.record_codec.specs.FitsCard.{FitsCard};
 ghost use Rattle.record_codec.specs.IsDurable.{IsDurable, IsHead};
+ghost use Rattle.record_codec.specs.declared.durable.Durable as durables;
 ghost use Rattle.record_codec.specs.declared.record.Record as records;
-ghost use Rattle.card_core.specs.Load.{EndsLoad, installed, installing};
+ghost use Rattle.card_core.specs.EndDecision.{DecidesEnd, decided_end, end_entry};
+ghost use Rattle.card_core.specs.Load.{EndsLoad, installing};
 
 use crate::recording::store;
 use crate::{Load, Loading, NoMemory};
 use file_rows::Content;
 use isdr_commands::install_check;
 use profile_install::BuildFault;
-use record_codec::{BoxedProfile, Durable, Profile, ProfileHead, Record};
+use record_codec::{BoxedProfile, Durable, Heads, Profile, ProfileHead, Record};
 use std::alloc::Global;
+
+/// What the end of a load comes to.
+#[derive(Debug, Drop)]
+pub enum EndDecision {
+    /// Nothing is installed, and this is told.
+    InstallsNothing(Loading),
+    /// The profile is installed under this number, by this record. Then `Loading::Done` is told.
+    Installs { profile: u16, entry: Record },
+}
 
 // What the end of a load comes to, and whether a record was carried out.
 pub struct Ending {
@@ -21,72 +32,72 @@ pub struct Ending {
     pub recorded: bool,
 }
 
-fn ends_with(outcome: Loading) -> Ending
-    ensures outcome { result.outcome ≡ outcome }
-    ensures recorded { result.recorded ≡ false }
-{
-    Ending {
-        outcome,
-        recorded: false,
-    }
-}
-
-// Installs a profile that nothing refuses, under the next number, which it returns.
-fn put_profile(
+// The record that installs a profile under this number.
+fn installation(
     alloc: Global,
-    durable: &mut Durable,
+    number: u16,
     head: ProfileHead,
     content: Content,
-) -> Result<u16, NoMemory>
-    requires are { IsDurable durable.old }
-    requires head { IsHead head }
-    requires content { IsValid content }
-    requires may { install_refusal durable.old.heads head ≡ None }
-    ensures number { IfOk result (λ number. number ≡ durable.old.heads.next_number) }
-    ensures kept { OnOk result (durable.new ≡ apply durable.old
-        (records.Record.PutProfile true (installed durable.old head content) None)) }
-    ensures are { OnOk result (IsDurable durable.new) }
+) -> Result<Record, NoMemory>
+    ensures { IfOk result (λ entry. entry ≡ records.Record.PutProfile true
+        (record { head = record head { number = number }; content = content }) None) }
 {
-    let number = durable.heads.next_number as u16;
     let mut head = head;
     head.number = number;
     let profile = BoxedProfile::new(alloc, Profile { head, content })?;
-    let entry = Record::PutProfile {
+    Ok(Record::PutProfile {
         installation: true,
         profile,
         port: None,
-    };
-    store(durable, &entry)?;
-    Ok(number)
+    })
 }
 
-// A package that gave this content ends its load.
-fn install(
+// What a package that gave this content comes to.
+fn decide_install(
     alloc: Global,
-    durable: &mut Durable,
-    commit: u32,
+    heads: &Heads,
     head: ProfileHead,
     content: Content,
-) -> Result<Ending, NoMemory>
-    requires are { IsDurable durable.old }
+) -> Result<EndDecision, NoMemory>
     requires head { IsHead head }
     requires content { IsValid content }
-    ensures end { IfOk result (λ ending. record {
-      durable = durable.new;
-      recorded = ending.recorded;
-      outcome = ending.outcome;
-    } ≡ installing durable.old commit head content (install_refusal durable.old.heads head)) }
-    ensures are { OnOk result (IsDurable durable.new) }
+    ensures ends { IfOk result (λ decision. (durable : durables.Durable) (commit : ℕ)
+        → durable.heads ≡ heads.now → decided_end durable commit decision
+        ≡ installing durable commit head content (install_refusal durable.heads head)) }
+    ensures fits { IfOk result (λ decision. (durable : durables.Durable) → IsDurable durable
+        → durable.heads ≡ heads.now → IfSome (end_entry decision) (FitsCard durable)) }
 {
-    match install_check(&durable.heads, &head) {
-        Some(refusal) => Ok(ends_with(Loading::Refused(refusal))),
+    match install_check(heads, &head) {
+        Some(refusal) => Ok(EndDecision::InstallsNothing(Loading::Refused(refusal))),
         None => {
-            let profile = put_profile(alloc, durable, head, content)?;
-            Ok(Ending {
-                outcome: Loading::Done { profile, commit },
-                recorded: true,
-            })
+            let profile = heads.next_number as u16;
+            let entry = installation(alloc, profile, head, content)?;
+            Ok(EndDecision::Installs { profile, entry })
         }
+    }
+}
+
+/// What the end of a load comes to, where there is one, on a card with these heads: the profile of
+/// its package is installed under the next number, unless the package or the card refuses it
+/// (GSMA SGP.22, profile installation). Memory may be wanting for the package or for the record,
+/// and was for the package where the load is spoiled.
+pub fn decide_end(alloc: Global, heads: &Heads, load: Option<Load>) -> Result<EndDecision, NoMemory>
+    ensures decides { IfOk result (λ decision. DecidesEnd heads.now load decision) }
+    ensures memory { OnErr result (IsSome load) }
+{
+    let Some(load) = load else {
+        return Ok(EndDecision::InstallsNothing(Loading::NotBegun));
+    };
+    let (head, built) = load.end();
+    match built {
+        Ok(content) => decide_install(alloc, heads, head, content),
+        Err(BuildFault::Element(refusal)) => {
+            Ok(EndDecision::InstallsNothing(Loading::Element {
+                place: refusal.place,
+                result: refusal.result,
+            }))
+        }
+        Err(BuildFault::OutOfMemory) => Err(NoMemory),
     }
 }
 
@@ -106,16 +117,17 @@ pub fn end_load(
     })) }
     ensures are { OnOk result (IsDurable durable.new) }
 {
-    let Some(load) = load else {
-        return Ok(ends_with(Loading::NotBegun));
-    };
-    let (head, built) = load.end();
-    match built {
-        Ok(content) => install(alloc, durable, commit, head, content),
-        Err(BuildFault::Element(refusal)) => Ok(ends_with(Loading::Element {
-            place: refusal.place,
-            result: refusal.result,
-        })),
-        Err(BuildFault::OutOfMemory) => Err(NoMemory),
+    match decide_end(alloc, &durable.heads, load)? {
+        EndDecision::InstallsNothing(outcome) => Ok(Ending {
+            outcome,
+            recorded: false,
+        }),
+        EndDecision::Installs { profile, entry } => {
+            store(durable, &entry)?;
+            Ok(Ending {
+                outcome: Loading::Done { profile, commit },
+                recorded: true,
+            })
+        }
     }
 }

@@ -6,7 +6,6 @@
 #![tactic(auto)]
 
 mod alone_laws;
-mod answering;
 mod card_laws;
 mod desk;
 mod desk_decision;
@@ -34,7 +33,6 @@ pub use alone_laws::{
     cards_stay_sound_with_each_event, profiles_are_answered_as_alone,
     what_a_profile_is_given_decides_its_answers, what_is_told_tells_what_a_profile_is_given,
 };
-pub use answering::IsdrAnswer;
 pub use card_laws::{
     contents_stay_until_they_are_deleted, own_commands_stay_at_their_port,
     ports_step_as_their_cards_do, resets_stay_at_their_port,
@@ -45,13 +43,14 @@ pub use entry::{Cause, Entry, Line, Loading, Maker};
 pub use event::{Event, LoadStep};
 pub use event_check::may_come;
 pub use exchange::{Collection, Exchange, Unsent};
+pub use installing::{EndDecision, decide_end};
 pub use laws::{
     blocks_make_one_request, channels_stand_apart, refused_commands_keep_the_reply,
     replies_are_given_in_order, requests_stay_within_their_limits,
 };
 pub use load::Load;
 pub use merge_laws::{runs_may_be_made_in_the_order_of_their_merge, statements_are_told_in_order};
-pub use port::{CardAnswer, Port};
+pub use port::{CardAnswer, IsdrAnswer, Port, fresh_card};
 pub use port_content::{change_content, content_on, profile_on};
 pub use run::pure_run;
 pub use script::{Phase, Script, Section, Statement};

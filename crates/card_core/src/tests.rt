@@ -4,6 +4,7 @@ mod alone;
 mod cards;
 mod events;
 mod management;
+mod steps;
 
 ghost use Rattle.std.specs.Prelude.{◌≡◌, ◌≤◌, length, IfOk};
 

@@ -6,19 +6,13 @@ ghost use Rattle.card_core.specs.Port.{content_on};
 
 use super::cards::{installation, new_card, store};
 use super::*;
-use crate::{change_content, content_on, profile_on};
+use crate::{Port, change_content, content_on, profile_on};
 use file_rows::{Change, Path, Piece};
 use record_codec::Durable;
 use std::process::Abort;
 
-// Whether a desk of port 0 answers so to these bytes, on a card that keeps this.
-fn answers(
-    alloc: Global,
-    desk: &mut Desk,
-    held: &mut Durable,
-    command: &[u8],
-    reply: &[u8],
-) -> Result<bool, Fail>
+// Whether port 0 answers so to these bytes, on a card that keeps this and was just opened.
+fn answers(alloc: Global, held: &mut Durable, command: &[u8], reply: &[u8]) -> Result<bool, Fail>
     requires { IsDurable held.old }
     ensures { IsDurable held.new }
 {
@@ -28,7 +22,8 @@ fn answers(
     if held.heads.ports.count == 0 {
         return Err(Fail::from("a port"));
     }
-    let its = desk.answer(alloc, held, &QUIET, 0, &command)?;
+    let mut port = Port::open(alloc, held, 0)?;
+    let its = port.answer_isdr(alloc, held, &QUIET, 0, &command)?;
     Ok(is_answer(&its.answer, reply, 0x9000))
 }
 
@@ -55,21 +50,20 @@ fn requests_are_carried_out_on_a_card(rt: HostRuntime) -> Result<(), Fail> {
     let mut held = new_card(alloc, PortMode::A1, 3)?;
     store(&rt, &mut held, &installation(alloc, 0x1100, 0xF1, 2)?)?;
     store(&rt, &mut held, &installation(alloc, 0x1101, 0xF2, 2)?)?;
-    let mut desk = Desk::new(alloc);
     let enabled = b"\xBF\x31\x03\x80\x01\x00";
-    assert!(rt; answers(alloc, &mut desk, &mut held, ENABLE_1, enabled)?);
+    assert!(rt; answers(alloc, &mut held, ENABLE_1, enabled)?);
     assert_eq!(rt; profile_on(&held, 1), Some(0x1100));
     let enabled_before = b"\xBF\x31\x03\x80\x01\x02";
-    assert!(rt; answers(alloc, &mut desk, &mut held, ENABLE_1, enabled_before)?);
+    assert!(rt; answers(alloc, &mut held, ENABLE_1, enabled_before)?);
     let no_port = b"\xBF\x31\x03\x80\x01\x07";
-    assert!(rt; answers(alloc, &mut desk, &mut held, ENABLE_2_NOWHERE, no_port)?);
+    assert!(rt; answers(alloc, &mut held, ENABLE_2_NOWHERE, no_port)?);
     let not_disabled = b"\xBF\x33\x03\x80\x01\x02";
-    assert!(rt; answers(alloc, &mut desk, &mut held, DELETE_1, not_disabled)?);
+    assert!(rt; answers(alloc, &mut held, DELETE_1, not_disabled)?);
     let deleted = b"\xBF\x33\x03\x80\x01\x00";
-    assert!(rt; answers(alloc, &mut desk, &mut held, DELETE_2, deleted)?);
+    assert!(rt; answers(alloc, &mut held, DELETE_2, deleted)?);
     let not_found = b"\xBF\x33\x03\x80\x01\x01";
-    assert!(rt; answers(alloc, &mut desk, &mut held, DELETE_2, not_found)?);
-    assert!(rt; answers(alloc, &mut desk, &mut held, INFO, INFO_OF_1)?);
+    assert!(rt; answers(alloc, &mut held, DELETE_2, not_found)?);
+    assert!(rt; answers(alloc, &mut held, INFO, INFO_OF_1)?);
     assert_eq!(rt; profile_on(&held, 1), Some(0x1100));
     assert_eq!(rt; profile_on(&held, 2), None);
     Ok(())
@@ -119,10 +113,9 @@ fn a_change_at_one_port_leaves_the_file_at_another(rt: HostRuntime) -> Result<()
     let mut held = new_card(alloc, PortMode::A1, 3)?;
     store(&rt, &mut held, &installation(alloc, 0x1100, 0xF1, 2)?)?;
     store(&rt, &mut held, &installation(alloc, 0x1101, 0xF2, 2)?)?;
-    let mut desk = Desk::new(alloc);
     let enabled = b"\xBF\x31\x03\x80\x01\x00";
-    assert!(rt; answers(alloc, &mut desk, &mut held, ENABLE_1, enabled)?);
-    assert!(rt; answers(alloc, &mut desk, &mut held, ENABLE_2, enabled)?);
+    assert!(rt; answers(alloc, &mut held, ENABLE_1, enabled)?);
+    assert!(rt; answers(alloc, &mut held, ENABLE_2, enabled)?);
     let change = Change::WriteRange {
         path: Path::from_slice(&[0x2F05]),
         offset: 0,
