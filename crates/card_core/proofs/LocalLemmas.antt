@@ -66,31 +66,31 @@ local_made state port its = record {
   entries = entry_at state port its.line ∷ [];
 }
 
-abbrev made_with : WorldState → List PortState → List Entry → ℕ → Made
+abbrev pub made_with : WorldState → List PortState → List Entry → ℕ → Made
 made_with state ports entries commits = record {
   state = state_with state.durable ports state.shared commits;
   entries = entries;
 }
 
 -- what changes no content counts no record
-same_commits : (state : WorldState) (ports : List PortState) (entries : List Entry)
+pub same_commits : (state : WorldState) (ports : List PortState) (entries : List Entry)
     → made_with state ports entries (state.commits + count_if false)
     ≡ made_with state ports entries state.commits
 same_commits state ports entries =
     let none : state.commits + count_if false ≡ state.commits = omega arith in
     ap (made_with state ports entries) none
 
-abbrev number_in : PortView → ℕ
+abbrev pub number_in : PortView → ℕ
 number_in view = view.port.statements + 1
 
-abbrev answered_local : PortView → PortState → Answer → Option Cause → LocalMade
+abbrev pub answered_local : PortView → PortState → Answer → Option Cause → LocalMade
 answered_local view put answer cause = record {
   put = put;
   change = None;
   line = lines.Answered (number_in view) answer cause;
 }
 
-abbrev card_seen : PortView → ℕ → Card
+abbrev pub card_seen : PortView → ℕ → Card
 card_seen view port = record {
   content = view.content;
   session = view.port.session;
@@ -98,7 +98,7 @@ card_seen view port = record {
   port = Some port;
 }
 
-abbrev own_local : ℕ → Apdu → PortView → LocalMade
+abbrev pub own_local : ℕ → Apdu → PortView → LocalMade
 own_local port c view =
     let outcome = decision (card_seen view port) c in
     record {
@@ -107,7 +107,7 @@ own_local port c view =
       line = lines.Answered (number_in view) outcome.answer None;
     }
 
-abbrev lsi_local : PortView → Result Lsi Sw → LocalMade
+abbrev pub lsi_local : PortView → Result Lsi Sw → LocalMade
 lsi_local view (Ok lsi.Count) = answered_local view (counted view.port)
     (record { body = count_body view.count; sw = OK }) None
 lsi_local view (Ok (lsi.Reset port)) = answered_local view (counted view.port)
@@ -115,19 +115,19 @@ lsi_local view (Ok (lsi.Reset port)) = answered_local view (counted view.port)
 lsi_local view (Err sw) = answered_local view (counted view.port) (status_alone sw) None
 
 -- what a command that isn't STORE DATA comes to on a channel with the ISD-R
-abbrev quiet_outcome : Desk → Apdu → DeskOutcome
+abbrev pub quiet_outcome : Desk → Apdu → DeskOutcome
 quiet_outcome desk c =
     cond (nat_eq c.ins 0xC0) (get_response (exchange_at desk c.channel) c)
     (desk_refusal (exchange_at desk c.channel) WRONG_INSTRUCTION)
 
-abbrev isdr_local : Apdu → PortView → LocalMade
+abbrev pub isdr_local : Apdu → PortView → LocalMade
 isdr_local c view =
     let outcome = quiet_outcome view.port.desk c in
     answered_local view (record (counted view.port) {
       desk = with_exchange view.port.desk c.channel outcome.exchange;
     }) outcome.answer None
 
-abbrev load_local : PortView → LoadOutcome → LocalMade
+abbrev pub load_local : PortView → LoadOutcome → LocalMade
 load_local view step = record {
   put = record (counted view.port) { load = step.load };
   change = None;
@@ -224,7 +224,7 @@ module _ (port : ℕ) where
   -- MANAGE LSI that resets no port
   module _ (bytes : List ℕ) (c : Apdu) (spelled : Spells bytes c)
       (is_lsi : nat_eq c.ins 0x7A ≡ true) where
-    lsi_is : (one : WorldState) (asked : Result Lsi Sw) → resets_a_port asked ≡ false
+    pub lsi_is : (one : WorldState) (asked : Result Lsi Sw) → resets_a_port asked ≡ false
         → local_made one port (lsi_local (view_at one port) asked) ≡ lsi_asked_for one port asked
     lsi_is one (Ok lsi.Count) none = same_commits one _ _
     lsi_is one (Ok (lsi.Reset other)) none = absurd cc
@@ -283,7 +283,7 @@ module _ (port : ℕ) where
         (busy_of one.ports) port c) (quiet_outcome (port_in one port).desk c)) not_store
         ∙ quiet (port_in one port).desk c
 
-    isdr_is : (one : WorldState)
+    pub isdr_is : (one : WorldState)
         → local_made one port (isdr_local c (view_at one port)) ≡ isdr_made one port c
     isdr_is one =
         let outcome : DeskOutcome = quiet_outcome (port_in one port).desk c in
@@ -377,7 +377,7 @@ module _ (port : ℕ) where
         by true false is_store is its none = none
         by false is_lsi is_store is its none = refl
 
-    failed_is : (one : WorldState) (c : Apdu) (cause : Option Cause)
+    pub failed_is : (one : WorldState) (c : Apdu) (cause : Option Cause)
         → Counts (view_at one port) c ≡ false
         → local_made one port (answered_local (view_at one port)
         (failed_port (port_in one port) c) (failed_answer cause) cause)

@@ -1,5 +1,5 @@
 //! The desk of a port.
-ghost use Rattle.std.specs.Prelude.{◌≡◌, ◌≤◌, ◌<◌, ◌==◌, ℕ, Bool, List, length, Some, IfOk};
+ghost use Rattle.std.specs.Prelude.{◌≡◌, ◌≢◌, ◌≤◌, ◌<◌, ◌==◌, ℕ, Bool, List, length, Some, IfOk};
 ghost use Rattle.std.specs.Prelude.{IfSome, OnErr};
 ghost use Rattle.apdu_codec.specs.Command.{Apdu, IsCommand, apdu_of};
 ghost use Rattle.card_core.specs.Carried.{SendsWhatIsLeft, exchange_after, decided_outcome};
@@ -145,8 +145,27 @@ impl Desk {
         let exchange = self.exchange_at(command.channel);
         match command.ins {
             ins::STORE_DATA => store_data(alloc, exchange, heads, busy, port, command),
-            ins::GET_RESPONSE => Ok(get_response(exchange, command)),
-            _ => Ok(DeskDecision::refused(Sw::WRONG_INSTRUCTION)),
+            _ => Ok(self.decide_reply(command)),
+        }
+    }
+
+    /// What a command other than STORE DATA comes to on a channel with the ISD-R: GET RESPONSE goes
+    /// on with the unsent reply, and any other is `6D00`. It looks at that channel alone, and takes
+    /// no memory.
+    #[tactic(auto, using(crate::proofs::CommandLemmas::channel_of_command))]
+    pub fn decide_reply(&self, command: &Command) -> DeskDecision
+        requires command { IsCommand command.now }
+        requires other { command.now.ins ≢ 0xE2 }
+        ensures outcome { (heads : heads.Heads) (busy : List Bool) (port : ℕ)
+            → decided_outcome (exchange_at self.now command.now.channel) result
+            ≡ desk_outcome self.now heads busy port (apdu_of command.now) }
+        ensures fits { SendsWhatIsLeft (exchange_at self.now command.now.channel)
+            result.exchange }
+    {
+        let exchange = self.exchange_at(command.channel);
+        match command.ins {
+            ins::GET_RESPONSE => get_response(exchange, command),
+            _ => DeskDecision::refused(Sw::WRONG_INSTRUCTION),
         }
     }
 
