@@ -1,7 +1,7 @@
 //! The steps of a command at a port: deciding, taking memory, and carrying out or failing. What is
 //! decided may be stored in between.
-ghost use Rattle.std.specs.Prelude.{◌≡◌, ◌≤◌, ◌<◌, ◌+◌, ◌^◌, length, IfOk, IfSome, IsSomeAnd};
-ghost use Rattle.std.specs.Prelude.{OnErr, OnOk};
+ghost use Rattle.std.specs.Prelude.{◌≡◌, ◌≢◌, ◌≤◌, ◌<◌, ◌+◌, ◌^◌, ℕ, Bool, List, length, IfOk};
+ghost use Rattle.std.specs.Prelude.{IfSome, IsSomeAnd, OnErr, OnOk};
 ghost use Rattle.apdu_codec.specs.Command.{IsCommand, apdu_of};
 ghost use Rattle.file_rows.specs.Change.{Fits};
 ghost use Rattle.profile_card.specs.Card.{MayFollow, outcome_at, settled};
@@ -13,6 +13,7 @@ ghost use Rattle.card_core.specs.Desk.{TakesBlock, desk_outcome, desk_with, exch
 ghost use Rattle.card_core.specs.Failed.{failed_port};
 ghost use Rattle.card_core.specs.OwnCommand.{port_after};
 ghost use Rattle.card_core.specs.PortState.{counted};
+ghost use Rattle.record_codec.specs.declared.durable.Heads as heads;
 
 use super::Port;
 use crate::{DeskDecision, ExchangeChange, NoMemory};
@@ -93,6 +94,20 @@ impl Port {
         ensures memory { OnErr result (TakesBlock self.now.desk (apdu_of command.now)) }
     {
         self.desk.decide(alloc, heads, busy, port, command)
+    }
+
+    /// What a command other than STORE DATA comes to on a channel with the ISD-R, as
+    /// `Desk::decide_reply` says. The port stays as it is.
+    pub fn decide_reply(&self, command: &Command) -> DeskDecision
+        requires command { IsCommand command.now }
+        requires other { command.now.ins ≢ 0xE2 }
+        ensures outcome { (heads : heads.Heads) (busy : List Bool) (port : ℕ)
+            → decided_outcome (exchange_at self.now.desk command.now.channel) result
+            ≡ desk_outcome self.now.desk heads busy port (apdu_of command.now) }
+        ensures fits { SendsWhatIsLeft (exchange_at self.now.desk command.now.channel)
+            result.exchange }
+    {
+        self.desk.decide_reply(command)
     }
 
     /// Carries out what `decide_isdr` returned for a command at the port of that number: what
