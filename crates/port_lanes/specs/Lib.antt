@@ -1,0 +1,12 @@
+pub mod Coming
+pub mod ComingStep
+pub mod Lane
+pub mod LanePort
+pub mod LaneStep
+pub mod LoadSteps
+pub mod Log
+pub mod LsiAnswer
+pub mod OwnStep
+pub mod Part
+pub mod Step
+pub mod Unstored
