@@ -1,5 +1,6 @@
 -- A lane behind one more of its statements.
-use Rattle.std.proofs.Common.{◌≡◌, ◌≤◌, ◌<◌, ◌+◌, ◌-◌, ◌^◌, ℕ, Bool, true, false, cond, nat_lt, List, length}
+use Rattle.std.proofs.Common.{◌≡◌, ◌≤◌, ◌<◌, ◌+◌, ◌-◌, ◌^◌, ℕ, Bool, true, false, cond, nat_lt}
+use Rattle.std.proofs.Common.{List, length}
 use Rattle.std.proofs.Common.{Option, Some, None, sym, ◌∙◌, ap, subst, arith}
 use Rattle.std.proofs.lemmas.Option.{slice_get_within}
 use Rattle.std.specs.Prelude.{drop, slice_get}
@@ -81,7 +82,8 @@ module _ (lane : LaneState) (event : Event) (is : IsLane lane)
           made = omega (arith, within, counted);
           session = steps.session is.session;
           bytes = subst (λ (n : ℕ). bytes_of_load after.port.load
-              + sum_by package_bytes (drop n lane.part.statements) < 2 ^ 32) (sym counted) most_left;
+              + sum_by package_bytes (drop n lane.part.statements) < 2 ^ 32) (sym counted)
+              most_left;
         }
 
 -- it is the one that the lane has next
@@ -109,7 +111,8 @@ makes_next begun may_come known knows lane after pass event coming failure recor
       failure = failure;
       records = records;
       commits = commits;
-      steps = steps_as (ComingHappens failure lane.at.number coming) (HappensFor failure event) lane.at
+      steps = steps_as (ComingHappens failure lane.at.number coming) (HappensFor failure event)
+          lane.at
           after records
           (λ state at made is.
           happens_of lane.at.number event coming for comes failure state made is) steps;

@@ -33,7 +33,8 @@ use Rattle.port_lanes.specs.declared.lane_port.LanePort.{LanePort}
 pub card_is : (state : WorldState) (lane : LanePort) → IsPortOf state lane
     → card_of lane.port.card ≡ card_in state lane.number
 card_is state lane at =
-    at.here ∙ ap (λ (its : PortState). card_on state.durable lane.number its.session) (sym at.stands)
+    at.here
+    ∙ ap (λ (its : PortState). card_on state.durable lane.number its.session) (sym at.stands)
 
 module _ (state : WorldState) (before after : LanePort) (c : Apdu) (outcome : CommandOutcome)
     (at : IsPortOf state before)

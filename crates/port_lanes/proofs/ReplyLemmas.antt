@@ -1,5 +1,6 @@
 -- A command on a channel with the ISD-R that isn't STORE DATA, at the port of a lane.
-use Rattle.std.proofs.Common.{◌≡◌, ◌≢◌, ◌+◌, ◌++◌, ℕ, Bool, true, false, cond, nat_eq, [], ◌∷◌, None}
+use Rattle.std.proofs.Common.{◌≡◌, ◌≢◌, ◌+◌, ◌++◌, ℕ, Bool, true, false, cond, nat_eq, [], ◌∷◌}
+use Rattle.std.proofs.Common.{None}
 use Rattle.std.proofs.Common.{List, refl, ◌∙◌, ap}
 use Rattle.std.proofs.Common.{eqb-true}
 use Rattle.apdu_codec.specs.Command.{Apdu, Spells}

@@ -1,5 +1,6 @@
 -- What a statement makes of the port of a lane: just what it makes of the card where that port is.
-use Rattle.std.specs.Prelude.{ℕ, ◌≡◌, ◌≤◌, ◌+◌, ◌⊎◌, List, [], ◌∷◌, ◌++◌, length, Option, Some, None}
+use Rattle.std.specs.Prelude.{ℕ, ◌≡◌, ◌≤◌, ◌+◌, ◌⊎◌, List, [], ◌∷◌, ◌++◌, length, Option, Some}
+use Rattle.std.specs.Prelude.{None}
 use Rattle.std.specs.Prelude.{Result, option_map}
 use Rattle.std.specs.Result.{result_err}
 use Rattle.apdu_codec.specs.Command.{Apdu, Spells}

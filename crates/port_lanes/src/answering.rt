@@ -21,8 +21,8 @@ use file_rows::Change;
 use record_codec::Record;
 
 impl LanePort {
-    // Takes the memory for a change of the content at the port, and commits it as one of the profile
-    // that stands there.
+    // Takes the memory for a change of the content at the port, and commits it as one of the
+    // profile that stands there.
     fn store<N: SectionName, K: Keeper<N>>(
         &mut self,
         change: &Option<Change>,

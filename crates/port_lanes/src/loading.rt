@@ -29,8 +29,8 @@ impl LanePort {
     pub(crate) fn begin_load(&mut self, alloc: Global, metadata: &[u8])
         requires line { 1 ≤ self.old.log.room }
         requires count { self.old.port.statements + 1 < 2 ^ 32 }
-        ensures step { StepsPort (λ state made. made ≡ begin_made state self.old.number metadata.now)
-            self.old self.new [] }
+        ensures step { StepsPort (λ state made.
+            made ≡ begin_made state self.old.number metadata.now) self.old self.new [] }
         ensures load { bytes_of_load self.new.port.load ≤ bytes_of_load self.old.port.load }
     {
         let number = self.port.next_number();

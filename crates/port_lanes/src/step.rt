@@ -21,9 +21,9 @@ pub enum Step {
     Idle,
 }
 
-/// Makes the next statement of the lane's phase, unless it needs the card as a whole. Of the book it
-/// takes one commit at most, and of other lanes nothing. A statement that is bytes passes the gate
-/// once, before it is made.
+/// Makes the next statement of the lane's phase, unless it needs the card as a whole. Of the book
+/// it takes one commit at most, and of other lanes nothing. A statement that is bytes passes the
+/// gate once, before it is made.
 ///
 /// It takes memory for CREATE FILE, RESIZE FILE and the bytes of a package alone; a command for
 /// which it is wanting is answered `6F00`. A command whose record isn't stored is answered `6581`.

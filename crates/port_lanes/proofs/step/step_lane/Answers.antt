@@ -17,7 +17,8 @@ make-requires-clause-bytes g c =
     }) c.in-Some.event.now c.lane.invariant (numbered_next c.lane.inside.part
     c.lane.inside.ended c.lane.inside.at.port.statements c.next-number.result
     c.in-Some.event.now
-    (c.next-number.ensures ∙ ap (λ (one : LaneState). one.at.port.statements + 1) (sym c.lane.view_is))
+    (c.next-number.ensures
+    ∙ ap (λ (one : LaneState). one.at.port.statements + 1) (sym c.lane.view_is))
     c.in-Some.ensures) c.read-coming.result c.read-coming.ensures.bytes
 
 pub invariant_of-lane : goal.invariant_of-lane
@@ -30,7 +31,8 @@ invariant_of-lane g c =
     }) c.in-Some.event.now c.lane.invariant (numbered_next c.lane.inside.part
     c.lane.inside.ended c.lane.inside.at.port.statements c.next-number.result
     c.in-Some.event.now
-    (c.next-number.ensures ∙ ap (λ (one : LaneState). one.at.port.statements + 1) (sym c.lane.view_is))
+    (c.next-number.ensures
+    ∙ ap (λ (one : LaneState). one.at.port.statements + 1) (sym c.lane.view_is))
     c.in-Some.ensures) c.read-coming.result c.read-coming.ensures.bytes
     _ c.make.new.self c.make.new.pass c.make.ensures.step.1 c.make.ensures.step.3
     c.make.ensures.pass c.make.ensures.load

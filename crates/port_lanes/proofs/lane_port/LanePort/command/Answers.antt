@@ -21,7 +21,8 @@ returns-then-command-eq-MANAGE_LSI-clause-step g c = (
   commits_none _ _ _ _,
   lsi_happens c.args.self.now (apdu_of c.args.command.now) c.answered.new.self
       c.lsi_answer-answer.result (sym c.is_common.ensures ∙ c.if-not-is_common.false)
-      (ap (λ (n : ℕ). nat_eq n 0x7A) c.if-command-eq-MANAGE_LSI.true) c.requires.unshared c.lsi_answer-answer.ensures
+      (ap (λ (n : ℕ). nat_eq n 0x7A) c.if-command-eq-MANAGE_LSI.true) c.requires.unshared
+      c.lsi_answer-answer.ensures
       c.answered.ensures.step,
 )
 

@@ -65,7 +65,8 @@ returns-in-Begins-clause-step g c = (
 pub returns-in-Feeds-clause-step : goal.returns-in-Feeds-clause-step
 returns-in-Feeds-clause-step g c =
     let its : PieceComes c.args.self.now c.take_piece.new.self (Feeds c.in-Feeds.piece) =
-    piece_comes c.args.self.now c.take_piece.new.self c.in-Feeds.piece c.take_piece.ensures.step in (
+    piece_comes c.args.self.now c.take_piece.new.self c.in-Feeds.piece
+    c.take_piece.ensures.step in (
       its.failure,
       [],
       inl (record { known = refl; records_are = refl; failure_is = its.reason }),
