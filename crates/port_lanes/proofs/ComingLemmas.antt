@@ -19,7 +19,7 @@ use Rattle.card_core.specs.declared.event.Event.{Event}
 use Rattle.card_core.specs.declared.event.Event.TheVariants as events
 use Rattle.card_core.specs.declared.event.LoadStep.{LoadStep}
 use Rattle.card_core.specs.declared.event.LoadStep.TheVariants as steps
-use Rattle.port_lanes.specs.Coming.{Comes, HasRoomForComing, IsStep, bytes_coming}
+use Rattle.port_lanes.specs.Coming.{Comes, HasRoomForComing, ComesAsStep, bytes_coming}
 use Rattle.port_lanes.specs.ComingStep.{ComingHappens}
 use Rattle.port_lanes.specs.Lane.{bytes_of_load}
 use Rattle.port_lanes.specs.LaneStep.{HappensFor}
@@ -91,7 +91,7 @@ is_port port (events.Reset came) for = sym (eqb-true came port for)
 is_port port (events.Load came step) for = sym (eqb-true came port for)
 is_port port events.Power for = absurd cc
 
-step_happens : (came : ℕ) (step : LoadStep) (coming : Coming) → IsStep step coming
+step_happens : (came : ℕ) (step : LoadStep) (coming : Coming) → ComesAsStep step coming
     → (failure : Option Unstored) (state : WorldState) (made : Made)
     → ComingHappens failure came coming state made
     → HappensFor failure (events.Load came step) state made

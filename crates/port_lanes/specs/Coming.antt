@@ -12,11 +12,11 @@ use Rattle.port_lanes.specs.declared.coming.Coming.{Coming}
 use Rattle.port_lanes.specs.declared.coming.Coming.TheVariants.{Begins, Command, Ends, Feeds}
 use Rattle.port_lanes.specs.declared.coming.Coming.TheVariants.{Resets, Unspelled}
 
-abbrev pub IsStep : LoadStep → Coming → Type 0
-IsStep (steps.Begin metadata) (Begins its) = its.now ≡ metadata
-IsStep (steps.Piece piece) (Feeds its) = its.now ≡ piece
-IsStep steps.End Ends = ⊤
-IsStep step _ = ⊥
+abbrev pub ComesAsStep : LoadStep → Coming → Type 0
+ComesAsStep (steps.Begin metadata) (Begins its) = its.now ≡ metadata
+ComesAsStep (steps.Piece piece) (Feeds its) = its.now ≡ piece
+ComesAsStep steps.End Ends = ⊤
+ComesAsStep step _ = ⊥
 
 -- it is what an event of a port comes to, as far as the bytes alone tell
 abbrev pub Comes : Event → Coming → Type 0
@@ -24,7 +24,7 @@ Comes (Bytes port bytes) (Command c) = Spells bytes (apdu_of c)
 Comes (Bytes port bytes) (Unspelled sw) =
     ((c : Apdu) → ¬ Spells bytes c) × (sw ≡ refusal bytes)
 Comes (Reset port) Resets = ⊤
-Comes (Load port step) coming = IsStep step coming
+Comes (Load port step) coming = ComesAsStep step coming
 Comes event _ = ⊥
 
 -- at a port where that is seen, it needs the card as a whole
